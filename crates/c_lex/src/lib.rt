@@ -1,0 +1,4 @@
+//! The tokens of a C source.
+#![tactic(auto)]
+
+pub mod token;

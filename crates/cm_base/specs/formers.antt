@@ -1,0 +1,2 @@
+-- How a type may hold itself through a list.
+pub mod list

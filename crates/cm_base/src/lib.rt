@@ -1,0 +1,15 @@
+//! What every crate speaks of: lists, places in a source, refusals, the regions of the platform,
+//! the stops of the machine, and the store and the sink.
+#![tactic(auto)]
+
+mod list;
+mod memory;
+mod place;
+mod regions;
+mod stop;
+
+pub use list::{Bytes, List, Text};
+pub use memory::NoMemory;
+pub use place::{Place, Refusal};
+pub use regions::{PLATFORM, Regions, Row};
+pub use stop::Stop;
