@@ -1,0 +1,4 @@
+pub mod State
+pub mod Platform
+pub mod Memory
+pub mod Boundary
