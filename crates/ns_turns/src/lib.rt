@@ -1,0 +1,2 @@
+//! Turns of Non-secure code, and whole runs of the machine.
+#![tactic(auto)]

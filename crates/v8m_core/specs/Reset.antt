@@ -1,0 +1,50 @@
+-- The machine when the device is reset (DDI0553, Reset).
+use Rattle.std.specs.Prelude.{◌≡◌, ℕ, List, length}
+use Rattle.ns_types.specs.declared.state.Side.TheVariants.{Secure}
+use Rattle.ns_types.specs.declared.turn.Start.{Start}
+use Rattle.ns_types.specs.State.{State, Whole, Memory}
+use Rattle.ns_types.specs.Platform.{aligned}
+use Rattle.ns_types.specs.Memory.{word_at}
+
+-- a start has the bytes of its regions, and no more
+pub record IsStart (start : Start) : Type 0 where
+  pub ns_rom : length start.ns_rom ≡ 262144
+  pub ns_ram : length start.ns_ram ≡ 131072
+  pub secure_ram : length start.secure_ram ≡ 106496
+
+abbrev pub memory_of : Start → Memory
+memory_of start = record { ns_rom = start.ns_rom; ns_ram = start.ns_ram; secure_ram = start.secure_ram }
+
+-- The first word of Secure ROM is the main stack pointer, which has no low two bits, and the second the reset
+-- address, without bit 0. All other registers are 0 but LR.
+abbrev pub reset_of : List ℕ → Start → State
+reset_of rom start = record {
+  cpu = record {
+    side = Secure;
+    regs = record {
+      r0 = 0;
+      r1 = 0;
+      r2 = 0;
+      r3 = 0;
+      r4 = 0;
+      r5 = 0;
+      r6 = 0;
+      r7 = 0;
+      r8 = 0;
+      r9 = 0;
+      r10 = 0;
+      r11 = 0;
+      r12 = 0;
+      sp = aligned 4 (word_at rom 0);
+      lr = 4294967295;
+    };
+    pc = aligned 2 (word_at rom 4);
+    nzcvq = 0;
+    psp = 0;
+    msplim = 0;
+    psplim = 0;
+    msp_ns = 0;
+    psp_ns = 0;
+  };
+  memory = memory_of start;
+}
