@@ -1,7 +1,7 @@
 -- Code in Secure ROM, and runs of it.
 use Rattle.std.specs.Prelude.{◌≡◌, ℕ, zero, suc, ◌+◌, ◌/◌, ◌%◌, ◌++◌, cond, ◌⊎◌, Bool, true, List, [], ◌∷◌, eqb}
 use Rattle.v8m_isa.specs.declared.instr.Instr.{Instr}
-use Rattle.v8m_isa.specs.Instr.{in_range_of, size_of, code_of}
+use Rattle.v8m_isa.specs.Table.{in_range_of, size_of, code_of}
 use Rattle.ns_types.specs.State.{State}
 use Rattle.ns_types.specs.Platform.{is_in_rom}
 use Rattle.v8m_core.specs.Step.{fetched, went, act, step_of}
