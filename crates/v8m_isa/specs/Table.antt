@@ -1,12 +1,12 @@
 -- The instruction table (DDI0553): each instruction's row, halfwords and range, and what two halfwords are.
-use Rattle.std.specs.Prelude.{ℕ, zero, suc, ◌+◌, ◌*◌, ◌/◌, ◌%◌, ◌^◌, Bool, true, false, cond, eqb, List, [], ◌∷◌, slice_index, Option, Some, None}
+use Rattle.std.specs.Prelude.{ℕ, zero, suc, ◌+◌, ◌*◌, ◌/◌, ◌%◌, ◌^◌, Bool, true, false, cond, eqb, List, [], ◌∷◌, slice_index, Option, Some, None, option_map}
 use Rattle.v8m_isa.specs.declared.instr.Instr.{Instr}
 use Rattle.v8m_isa.specs.declared.instr.Instr.TheVariants.{Mov, Bxns, Udf, Sg, Movw, Movt, Bic, Ldr, Str, B, Msr}
 use Rattle.v8m_isa.specs.declared.instr.Code.{Code}
 use Rattle.v8m_isa.specs.declared.table.Opcode.{Opcode}
 use Rattle.v8m_isa.specs.declared.table.Opcode.TheVariants as op
 use Rattle.v8m_isa.specs.declared.table.TheConstants as rows
-use Rattle.v8m_isa.specs.Form.{Row, row, fields_got, all_taken, word_of, row_size, word_in, fits}
+use Rattle.v8m_isa.specs.Form.{Row, row, all_taken, row_size, row_code, numbers_in}
 
 -- the rows in the manual's order
 abbrev pub opcodes : List Opcode
@@ -76,7 +76,7 @@ size_of i = row_size (row_of (opcode_of i))
 
 -- the halfwords of an instruction
 unfoldable pub code_of : Instr → Code
-code_of i = let w = word_of (row_of (opcode_of i)) (numbers_of i) in record { first = w / 2 ^ 16; second = w % 2 ^ 16; size = size_of i }
+code_of i = row_code (row_of (opcode_of i)) (numbers_of i)
 
 -- an instruction that was read, and its size in bytes
 pub record Decoded : Type 0 where
@@ -85,10 +85,7 @@ pub record Decoded : Type 0 where
 
 -- what two halfwords are by a row
 unfoldable pub read_by : Opcode → ℕ → ℕ → Option Decoded
-read_by o first second =
-    let r = row_of o in
-    let w = word_in r first second in
-    cond (fits r w) (Some (record { instr = instr_of o (fields_got r.fields w); size = row_size r })) None
+read_by o first second = option_map (λ v. record { instr = instr_of o v; size = row_size (row_of o) }) (numbers_in (row_of o) first second)
 
 -- the first of these rows that the halfwords fit
 abbrev pub or_else : Option Decoded → Option Decoded → Option Decoded

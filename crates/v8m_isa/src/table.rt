@@ -14,7 +14,7 @@ macro_rules! form {
 
 macro_rules! field {
     ($up:literal, $kind:ident $($high:literal : $low:literal)*) => {
-        Field { kind: Kind::$kind, pieces: pieces!($up, [] $($high : $low)*) }
+        Field { kind: Kind::$kind, wide: 0 $(+ $high - $low + 1)*, pieces: pieces!($up, [] $($high : $low)*) }
     };
 }
 
