@@ -1,0 +1,9 @@
+//! The instructions of Armv8-M that the machine and the code generator speak of: their halfwords, written and read
+//! by one table.
+#![tactic(auto)]
+
+mod form;
+mod instr;
+mod table;
+
+pub use instr::{Code, Instr};
