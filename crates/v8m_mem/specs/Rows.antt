@@ -14,6 +14,12 @@ pub record AreWhole (r : Rows) : Type 0 where
   pub rom : length r.rom ≡ 4194304
   pub memory : IsWhole r.memory
 
+-- a start has the bytes of its regions, and no more
+pub record IsStart (start : Start) : Type 0 where
+  pub ns_rom : length start.ns_rom ≡ 262144
+  pub ns_ram : length start.ns_ram ≡ 131072
+  pub secure_ram : length start.secure_ram ≡ 106496
+
 -- what memory holds when the device is reset
 abbrev pub memory_of : Start → Memory
 memory_of start = record { ns_rom = start.ns_rom; ns_ram = start.ns_ram; secure_ram = start.secure_ram }

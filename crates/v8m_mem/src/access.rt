@@ -1,7 +1,7 @@
 //! Which accesses one region holds.
 
 ghost use Rattle.std.specs.Prelude.{◌≡◌, ◌≤◌, IsTrue};
-ghost use Rattle.ns_types.specs.Platform.{is_readable, is_writable, region_of};
+ghost use Rattle.ns_types.specs.Platform.{in_row, is_in_rom, is_nonsecure, is_readable, is_secure, is_writable, region_of};
 ghost use Rattle.v8m_mem.specs.Rows.{is_size};
 
 /// Whether one region holds all `size` bytes at an address, so that Secure code may read them.
@@ -56,4 +56,32 @@ pub fn region_at(at: u32) -> Option<u8>
         0x3001_0000..0x3001_A000 => Some(5),
         _ => None,
     }
+}
+
+/// Whether Secure code may stand at an address: Secure ROM and the Non-secure callable region.
+pub fn is_in_rom(at: u32) -> bool
+    ensures { result ≡ is_in_rom at }
+{
+    0x1000_0000 <= at && at < 0x1040_0000
+}
+
+/// Whether an address lies in Secure memory.
+pub fn is_secure(at: u32) -> bool
+    ensures { result ≡ is_secure at }
+{
+    is_in_rom(at) || (0x3000_0000 <= at && at < 0x3001_A000)
+}
+
+/// Whether an address lies in Non-secure RAM.
+pub fn is_in_ns_ram(at: u32) -> bool
+    ensures { result ≡ in_row 1 at }
+{
+    0x2000_0000 <= at && at < 0x2002_0000
+}
+
+/// Whether an address lies in Non-secure memory.
+pub fn is_nonsecure(at: u32) -> bool
+    ensures { result ≡ is_nonsecure at }
+{
+    at < 0x0004_0000 || is_in_ns_ram(at)
 }

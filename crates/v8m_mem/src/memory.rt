@@ -2,8 +2,8 @@ ghost use Rattle.std.specs.Prelude.{◌≡◌, ◌-◌, ◌≤◌, IfOk, IsTrue,
 ghost use Rattle.std.specs.Bool.{OnFalse};
 ghost use Rattle.cm_base.specs.declared.regions.TheConstants.{PLATFORM};
 ghost use Rattle.ns_types.specs.Platform.{in_row, is_in_rom, is_readable, is_writable, region_of, row};
-ghost use Rattle.ns_types.specs.Memory.{IsWhole, half_at, load, read_of, store, write_of};
-ghost use Rattle.v8m_mem.specs.Rows.{is_size, memory_of};
+ghost use Rattle.ns_types.specs.Memory.{half_at, load, read_of, store, write_of};
+ghost use Rattle.v8m_mem.specs.Rows.{IsStart, is_size, memory_of};
 
 use crate::access::{can_read, can_write, region_at};
 use crate::bytes::{get_number, set_number};
@@ -43,7 +43,7 @@ impl Memory {
     ) -> Result<Memory, NoMemory>
         requires platform { regions ≡ PLATFORM }
         requires rom { length rom.now ≡ 4194304 }
-        requires start { IsWhole (memory_of start.now) }
+        requires start { IsStart start.now }
         ensures { IfOk result (λ m. m ≡ record { rom = rom.now; memory = memory_of start.now }) }
     {
         let _ = regions;

@@ -2,7 +2,7 @@
 
 ghost use Rattle.std.specs.Prelude.{◌≡◌, IfOk, length};
 
-use crate::{Memory, can_write};
+use crate::{Memory, can_read, can_write, is_in_ns_ram, is_in_rom, is_nonsecure, is_secure};
 use cm_base::{Bytes, NoMemory, PLATFORM};
 use ns_types::Start;
 use std::alloc::Global;
@@ -106,6 +106,12 @@ fn regions_and_reads(rt: HostRuntime) -> Result<(), Fail> {
     ];
     for (at, region, byte, half, word) in table {
         assert_eq!(rt; m.region_of(at), region, "region at {at:x}");
+        let k = region.unwrap_or(9);
+        assert_eq!(rt; is_nonsecure(at), k <= 1, "{at:x}");
+        assert_eq!(rt; is_in_ns_ram(at), k == 1, "{at:x}");
+        assert_eq!(rt; is_secure(at), k != 9 && k >= 2, "{at:x}");
+        assert_eq!(rt; is_in_rom(at), k == 2 || k == 3, "{at:x}");
+        assert_eq!(rt; can_read(at, 4), word.is_some(), "{at:x}");
         assert_eq!(rt; read(&m, at, 1), byte, "byte at {at:x}");
         assert_eq!(rt; read(&m, at, 2), half, "halfword at {at:x}");
         assert_eq!(rt; read(&m, at, 4), word, "word at {at:x}");
