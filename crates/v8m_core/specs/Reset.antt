@@ -1,19 +1,11 @@
 -- The machine when the device is reset (DDI0553, Reset).
-use Rattle.std.specs.Prelude.{◌≡◌, ℕ, List, length}
+use Rattle.std.specs.Prelude.{ℕ, List}
 use Rattle.ns_types.specs.declared.state.Side.TheVariants.{Secure}
 use Rattle.ns_types.specs.declared.turn.Start.{Start}
-use Rattle.ns_types.specs.State.{State, Whole, Memory}
+use Rattle.ns_types.specs.State.{State}
 use Rattle.ns_types.specs.Platform.{aligned}
 use Rattle.ns_types.specs.Memory.{word_at}
-
--- a start has the bytes of its regions, and no more
-pub record IsStart (start : Start) : Type 0 where
-  pub ns_rom : length start.ns_rom ≡ 262144
-  pub ns_ram : length start.ns_ram ≡ 131072
-  pub secure_ram : length start.secure_ram ≡ 106496
-
-abbrev pub memory_of : Start → Memory
-memory_of start = record { ns_rom = start.ns_rom; ns_ram = start.ns_ram; secure_ram = start.secure_ram }
+use Rattle.v8m_mem.specs.Rows.{memory_of}
 
 -- The first word of Secure ROM is the main stack pointer, which has no low two bits, and the second the reset
 -- address, without bit 0. All other registers are 0 but LR.
