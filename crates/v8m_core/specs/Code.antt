@@ -25,7 +25,7 @@ past pc (i ∷ is) = past (pc + size_of i) is
 
 -- the bytes of code, little endian
 abbrev pub two : ℕ → List ℕ
-two h = h % 256 ∷ h / 256 ∷ []
+two h = h % 256 ∷ h / 256 % 256 ∷ []
 
 abbrev pub instr_bytes : Instr → List ℕ
 instr_bytes i = cond (eqb (size_of i) 2) (two (code_of i).first) (two (code_of i).first ++ two (code_of i).second)

@@ -1,0 +1,5 @@
+pub mod States
+pub mod Pieces
+pub mod Views
+pub mod Refine
+pub mod Whole

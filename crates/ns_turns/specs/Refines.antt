@@ -1,0 +1,44 @@
+-- The machine does what a program does, and shows the caller exactly what the program shows.
+use Rattle.std.specs.Prelude.{◌≡◌, ◌≢◌, ℕ, ◌<◌, ◌≤◌, ◌⊎◌, min, List, [], ◌∷◌, ◌++◌, Option}
+use Rattle.cm_base.specs.declared.stop.Stop.TheVariants.{StackLimit}
+use Rattle.ns_types.specs.declared.event.Event.{Event}
+use Rattle.ns_types.specs.declared.event.Event.TheVariants as event
+use Rattle.ns_types.specs.declared.event.End.TheVariants as end
+use Rattle.ns_types.specs.declared.event.Events.{Events}
+use Rattle.ns_types.specs.declared.event.Bound.{Bound}
+use Rattle.ns_types.specs.declared.turn.Turn.{Turn}
+use Rattle.ns_types.specs.declared.turn.Start.{Start}
+use Rattle.ns_types.specs.CRun.{Run}
+use Rattle.ns_types.specs.Show.{show, events_shown}
+use Rattle.v8m_mem.specs.Rows.{IsStart}
+use Rattle.ns_turns.specs.Run.{machine_run}
+use Rattle.ns_turns.specs.Prefix.{IsFront}
+
+-- what the caller sees of a run
+abbrev pub seen_of : (ℕ → Option ℕ) → Run → List Event
+seen_of enters run = events_shown (show enters run.list)
+
+-- The machine's events are exactly what the run shows, and it ends as the run does. Where the bound of the run is
+-- used up the machine has done at least so many steps.
+pub record Same (m : Events) (seen : List Event) (run : Run) (least n : ℕ) : Type 0 where
+  pub list : m.list ≡ seen
+  pub ended : run.end ≢ end.Spent → m.end ≡ run.end
+  pub spent : run.end ≡ end.Spent → (m.end ≡ end.Spent) × (least ≤ n)
+
+-- The machine has no room left on its stack, after a front of what the run shows, and the run needs more than there is.
+pub record OutOfRoom (m : Events) (seen : List Event) (run : Run) (room : ℕ) : Type 0 where
+  pub before : List Event
+  pub list : m.list ≡ before ++ event.Stopped StackLimit ∷ []
+  pub front : IsFront before seen
+  pub end : m.end ≡ end.Stopped
+  pub need : room < run.peak
+
+-- the bytes of the main stack below its seal
+abbrev pub room : ℕ
+room = 32760
+
+-- For every start, list of turns and bound there is a number of steps after which the machine has shown what the run
+-- shows, or is out of room.
+abbrev pub Refines : List ℕ → (ℕ → Option ℕ) → (Start → List Turn → Bound → Run) → Type 0
+Refines rom enters run =
+    (start : Start) → IsStart start → (ts : List Turn) (b : Bound) → (n : ℕ) × (Same (machine_run rom start ts n) (seen_of enters (run start ts b)) (run start ts b) (min b.turns b.deep) n ⊎ OutOfRoom (machine_run rom start ts n) (seen_of enters (run start ts b)) (run start ts b) room)

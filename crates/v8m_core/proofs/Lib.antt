@@ -1,0 +1,4 @@
+pub mod Runs
+pub mod Gates
+pub mod Words
+pub mod Bytes
