@@ -1,2 +1,5 @@
-pub mod Pieces
-pub mod Rows
+pub mod PieceLaws
+pub mod KindLaws
+pub mod RowLaws
+pub mod TableLaws
+pub mod Laws

@@ -1,5 +1,5 @@
 -- The instruction table (DDI0553): each instruction's row, halfwords and range, and what two halfwords are.
-use Rattle.std.specs.Prelude.{ℕ, zero, suc, ◌+◌, ◌*◌, ◌/◌, ◌%◌, ◌^◌, Bool, true, false, cond, eqb, List, [], ◌∷◌, slice_index, Option, Some, None, option_map}
+use Rattle.std.specs.Prelude.{◌≡◌, ℕ, zero, suc, ◌+◌, ◌*◌, ◌/◌, ◌%◌, ◌^◌, Bool, true, false, cond, eqb, List, [], ◌∷◌, slice_index, Option, Some, None, option_map}
 use Rattle.v8m_isa.specs.declared.instr.Instr.{Instr}
 use Rattle.v8m_isa.specs.declared.instr.Instr.TheVariants.{Mov, Bxns, Udf, Sg, Movw, Movt, Bic, Ldr, Str, B, Msr}
 use Rattle.v8m_isa.specs.declared.instr.Code.{Code}
@@ -25,7 +25,7 @@ row_of op.Str = row rows.STR
 row_of op.B = row rows.B
 row_of op.Msr = row rows.MSR
 
--- the row of an instruction, and the numbers of its fields
+-- the row of an instruction, and the numbers of its fields, with 0 for each blank one
 unfoldable pub opcode_of : Instr → Opcode
 opcode_of (Mov d m) = op.Mov
 opcode_of (Bxns m) = op.Bxns
@@ -40,17 +40,17 @@ opcode_of (B off) = op.B
 opcode_of (Msr s n) = op.Msr
 
 unfoldable pub numbers_of : Instr → List ℕ
-numbers_of (Mov d m) = d ∷ m ∷ []
-numbers_of (Bxns m) = m ∷ []
-numbers_of (Udf i) = i ∷ []
-numbers_of Sg = []
-numbers_of (Movw d i) = d ∷ i ∷ []
-numbers_of (Movt d i) = d ∷ i ∷ []
-numbers_of (Bic d n m) = d ∷ n ∷ m ∷ []
-numbers_of (Ldr t n i) = t ∷ n ∷ i ∷ []
-numbers_of (Str t n i) = t ∷ n ∷ i ∷ []
-numbers_of (B off) = off ∷ []
-numbers_of (Msr s n) = s ∷ n ∷ []
+numbers_of (Mov d m) = d ∷ m ∷ 0 ∷ 0 ∷ []
+numbers_of (Bxns m) = m ∷ 0 ∷ 0 ∷ 0 ∷ []
+numbers_of (Udf i) = i ∷ 0 ∷ 0 ∷ 0 ∷ []
+numbers_of Sg = 0 ∷ 0 ∷ 0 ∷ 0 ∷ []
+numbers_of (Movw d i) = d ∷ i ∷ 0 ∷ 0 ∷ []
+numbers_of (Movt d i) = d ∷ i ∷ 0 ∷ 0 ∷ []
+numbers_of (Bic d n m) = d ∷ n ∷ m ∷ 0 ∷ []
+numbers_of (Ldr t n i) = t ∷ n ∷ i ∷ 0 ∷ []
+numbers_of (Str t n i) = t ∷ n ∷ i ∷ 0 ∷ []
+numbers_of (B off) = off ∷ 0 ∷ 0 ∷ 0 ∷ []
+numbers_of (Msr s n) = s ∷ n ∷ 0 ∷ 0 ∷ []
 
 -- the instruction of a row and the numbers of its fields
 unfoldable pub instr_of : Opcode → List ℕ → Instr
@@ -107,3 +107,17 @@ is_of_two_bytes (Some d) = eqb d.size 2
 -- the halfword is an instruction by itself
 unfoldable pub is_narrow : ℕ → Bool
 is_narrow first = is_of_two_bytes (decode_of first 0)
+
+abbrev pub pair_of : Decoded → Instr × ℕ
+pair_of d = (d.instr, d.size)
+
+-- an instruction in range of this size has these halfwords, the second one where it has two
+pub record IsReadAs (first second : ℕ) (i : Instr) (size : ℕ) : Type 0 where
+  pub in_range : in_range_of i ≡ true
+  pub has_size : (code_of i).size ≡ size
+  pub has_first : (code_of i).first ≡ first
+  pub has_second : size ≡ 4 → (code_of i).second ≡ second
+
+-- no instruction in range has these halfwords
+abbrev pub IsNoInstr : ℕ → ℕ → Type 0
+IsNoInstr first second = (i : Instr) → IsReadAs first second i (size_of i) → ⊥

@@ -2,8 +2,10 @@
 //! by one table.
 #![tactic(auto)]
 
+mod codec;
 mod form;
 mod instr;
 mod table;
 
+pub use codec::{decode, encode, in_range, is_narrow};
 pub use instr::{Code, Instr};

@@ -1,6 +1,6 @@
 use Rattle.std.proofs.Common.{◌≡◌, sym, ap, ◌∙◌, arith}
 use Rattle.v8m_isa.specs.Form.{put_all}
-use Rattle.v8m_isa.proofs.Pieces.{put_all_more, put_all_end}
+use Rattle.v8m_isa.proofs.PieceLaws.{put_all_more, put_all_end}
 use Rattle.v8m_isa.proofs.form.Field.put.Goals as goal
 
 pub loop-piece-preserved : goal.loop-piece-preserved

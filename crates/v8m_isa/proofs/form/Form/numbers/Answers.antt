@@ -1,6 +1,6 @@
 use Rattle.std.proofs.Common.{◌≡◌, sym, ◌∙◌, arith}
 use Rattle.std.proofs.lemmas.List.{length-set}
-use Rattle.v8m_isa.proofs.Rows.{fields_got_more}
+use Rattle.v8m_isa.proofs.RowLaws.{fields_got_more}
 use Rattle.v8m_isa.proofs.form.Form.numbers.Goals as goal
 
 pub loop-k-preserved : goal.loop-k-preserved

@@ -1,6 +1,6 @@
 use Rattle.std.proofs.Common.{◌≡◌, refl, sym, ◌∙◌, arith}
 use Rattle.v8m_isa.specs.Form.{word_of}
-use Rattle.v8m_isa.proofs.Rows.{fields_put_more, fields_put_end}
+use Rattle.v8m_isa.proofs.RowLaws.{fields_put_more, fields_put_end}
 use Rattle.v8m_isa.proofs.form.Form.word.Goals as goal
 
 pub loop-k-init : goal.loop-k-init

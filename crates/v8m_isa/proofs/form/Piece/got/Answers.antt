@@ -1,4 +1,4 @@
-use Rattle.v8m_isa.proofs.Pieces.{got_is}
+use Rattle.v8m_isa.proofs.PieceLaws.{got_is}
 use Rattle.v8m_isa.proofs.form.Piece.got.Goals as goal
 
 pub returns : goal.returns

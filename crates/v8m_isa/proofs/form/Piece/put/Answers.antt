@@ -1,4 +1,4 @@
-use Rattle.v8m_isa.proofs.Pieces.{put_is}
+use Rattle.v8m_isa.proofs.PieceLaws.{put_is}
 use Rattle.v8m_isa.proofs.form.Piece.put.Goals as goal
 
 pub returns : goal.returns
