@@ -3,3 +3,4 @@ pub mod Pieces
 pub mod Views
 pub mod Refine
 pub mod Whole
+pub mod Clean

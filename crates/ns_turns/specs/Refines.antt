@@ -1,6 +1,7 @@
 -- The machine does what a program does, and shows the caller exactly what the program shows.
-use Rattle.std.specs.Prelude.{◌≡◌, ◌≢◌, ℕ, ◌<◌, ◌≤◌, ◌⊎◌, min, List, [], ◌∷◌, ◌++◌, Option}
-use Rattle.cm_base.specs.declared.stop.Stop.TheVariants.{StackLimit}
+use Rattle.std.specs.Prelude.{◌≡◌, ◌≢◌, ℕ, ◌<◌, ◌≤◌, ◌⊎◌, min, Bool, true, false, not, ◌&&◌, List, [], ◌∷◌, ◌++◌, Option}
+use Rattle.cm_base.specs.declared.stop.Stop.{Stop}
+use Rattle.cm_base.specs.declared.stop.Stop.TheVariants.{Divide, Outside, Misaligned, DataStack, CallTarget, EntryPoint, Access, ReturnFault, Astray, StackLimit, Undefined, Unaligned, Unmapped, BadState}
 use Rattle.ns_types.specs.declared.event.Event.{Event}
 use Rattle.ns_types.specs.declared.event.Event.TheVariants as event
 use Rattle.ns_types.specs.declared.event.End.TheVariants as end
@@ -42,3 +43,44 @@ room = 32760
 abbrev pub Refines : List ℕ → (ℕ → Option ℕ) → (Start → List Turn → Bound → Run) → Type 0
 Refines rom enters run =
     (start : Start) → IsStart start → (ts : List Turn) (b : Bound) → (n : ℕ) × (Same (machine_run rom start ts n) (seen_of enters (run start ts b)) (run start ts b) (min b.turns b.deep) n ⊎ OutOfRoom (machine_run rom start ts n) (seen_of enters (run start ts b)) (run start ts b) room)
+
+-- the stops that only a machine has
+abbrev pub is_machine_stop : Stop → Bool
+is_machine_stop StackLimit = true
+is_machine_stop Undefined = true
+is_machine_stop Unaligned = true
+is_machine_stop Unmapped = true
+is_machine_stop BadState = true
+is_machine_stop Divide = false
+is_machine_stop Outside = false
+is_machine_stop Misaligned = false
+is_machine_stop DataStack = false
+is_machine_stop CallTarget = false
+is_machine_stop EntryPoint = false
+is_machine_stop Access = false
+is_machine_stop ReturnFault = false
+is_machine_stop Astray = false
+
+abbrev pub is_clean_event : Event → Bool
+is_clean_event (event.Given v) = true
+is_clean_event (event.Wrote at size value) = true
+is_clean_event (event.Stopped x) = not (is_machine_stop x)
+
+-- no stop that only a machine has
+abbrev pub is_clean : List Event → Bool
+is_clean [] = true
+is_clean (e ∷ es) = is_clean_event e && is_clean es
+
+-- What the machine has shown after some steps is a front of what the run shows, without a stop of its own but a last
+-- one for want of stack, where the run needs more than there is. Where the machine waits, so does the run.
+pub record OnlyShows (m : Events) (seen : List Event) (run : Run) : Type 0 where
+  pub before : List Event
+  pub list : (m.list ≡ before) ⊎ ((m.list ≡ before ++ event.Stopped StackLimit ∷ []) × (room < run.peak))
+  pub front : IsFront before seen
+  pub clean : is_clean before ≡ true
+  pub waits : m.end ≡ end.Waiting → (run.end ≡ end.Waiting) × (m.list ≡ seen)
+
+-- For every start, list of turns and number of steps there is such a bound.
+abbrev pub Only : List ℕ → (ℕ → Option ℕ) → (Start → List Turn → Bound → Run) → Type 0
+Only rom enters run =
+    (start : Start) → IsStart start → (ts : List Turn) (n : ℕ) → (b : Bound) × OnlyShows (machine_run rom start ts n) (seen_of enters (run start ts b)) (run start ts b)
