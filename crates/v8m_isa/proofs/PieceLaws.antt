@@ -40,7 +40,7 @@ apart at wide at' wide' = leb (at + wide) at' || leb (at' + wide') at
 slot_own : (at wide x : ℕ) → x < 2 ^ wide → slot at wide (x * 2 ^ at) ≡ x
 slot_own at wide x lt = ap (λ y. y % 2 ^ wide) (shl-shr x at) ∙ mod-eq_of_lt lt
 
-above : (at wide k x : ℕ) → slot at wide (x * 2 ^ (at + wide + k)) ≡ 0
+pub above : (at wide k x : ℕ) → slot at wide (x * 2 ^ (at + wide + k)) ≡ 0
 above at wide k x =
     let e : x * 2 ^ (at + wide + k) ≡ x * 2 ^ k * 2 ^ wide * 2 ^ at = rw (pow-add, pow-add) (grind arith) in
     ap (λ y. y / 2 ^ at % 2 ^ wide) e ∙ ap (λ y. y % 2 ^ wide) (shl-shr (x * 2 ^ k * 2 ^ wide) at) ∙ mul-mod_left (x * 2 ^ k) (2 ^ wide)
