@@ -4,8 +4,11 @@
 mod applying;
 mod effect;
 mod gates;
+mod machine;
 mod operands;
 mod stepped;
+mod turning;
 
 pub use effect::Effect;
+pub use machine::{Image, Machine};
 pub use stepped::Stepped;

@@ -1,7 +1,7 @@
 //! What each instruction does, from the registers: a row of the instruction table is an arm.
 
 ghost use Rattle.std.specs.Prelude.{◌≡◌, ◌+◌, ◌^◌, ◌<◌, IsTrue};
-ghost use Rattle.v8m_isa.specs.Instr.{in_range_of};
+ghost use Rattle.v8m_isa.specs.Table.{in_range_of};
 ghost use Rattle.v8m_core.specs.Step.{effect_of, udf_stop};
 ghost use Rattle.v8m_core.specs.Parts.{can_apply};
 
@@ -25,7 +25,7 @@ fn udf_stop(i: u32) -> Stop
 }
 
 /// The effect of an instruction with its operands read.
-#[tactic(auto, unfolding(crate::specs::Step::effect_of, v8m_isa::specs::Instr::in_range_of))]
+#[tactic(auto, unfolding(crate::specs::Step::effect_of, v8m_isa::specs::Table::in_range_of, v8m_isa::specs::Table::row_of, v8m_isa::specs::Table::opcode_of, v8m_isa::specs::Table::numbers_of, v8m_isa::specs::Form::all_taken, v8m_isa::specs::Form::takes))]
 pub fn effect_of(cpu: &Cpu, instr: &Instr) -> Effect
     requires range { IsTrue (in_range_of instr.now) }
     requires room { cpu.now.pc + 4 < 2 ^ 32 }
