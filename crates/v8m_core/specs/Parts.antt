@@ -1,10 +1,11 @@
 -- A state by its parts, and which effects can be applied.
-use Rattle.std.specs.Prelude.{◌≡◌, ℕ, Bool, true, ◌&&◌, ltb}
+use Rattle.std.specs.Prelude.{◌≡◌, ℕ, Bool, true, false, ◌&&◌, ltb}
 use Rattle.ns_types.specs.declared.goes.Goes.{Goes}
 use Rattle.ns_types.specs.declared.goes.Goes.TheVariants.{Enter}
 use Rattle.ns_types.specs.declared.state.Cpu.{Cpu}
 use Rattle.ns_types.specs.State.{Memory, State}
 use Rattle.v8m_core.specs.declared.stepped.Stepped.{Stepped}
+use Rattle.v8m_core.specs.declared.stepped.Stepped.TheVariants.{Went, Wrote, Given, Stopped}
 use Rattle.v8m_mem.specs.Rows.{is_size}
 use Rattle.v8m_core.specs.declared.effect.Effect.{Effect}
 use Rattle.v8m_core.specs.declared.effect.Effect.TheVariants.{Put, Load, Store}
@@ -31,3 +32,10 @@ can_apply _ = true
 abbrev pub entry_of : Goes → ℕ
 entry_of (Enter e) = e
 entry_of _ = 0
+
+-- a step that no event shows but a stop
+abbrev pub is_quiet : Stepped → Bool
+is_quiet Went = true
+is_quiet (Wrote at size value) = false
+is_quiet (Given view) = false
+is_quiet (Stopped stop) = true

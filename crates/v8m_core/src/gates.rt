@@ -1,9 +1,9 @@
 //! The gates between Secure and Non-secure state (DDI0553: SG, BXNS, function return).
 
-ghost use Rattle.std.specs.Prelude.{◌≡◌, ◌+◌, ◌^◌, ◌<◌};
+ghost use Rattle.std.specs.Prelude.{◌≡◌, ◌+◌, ◌^◌, ◌<◌, IsTrue};
 ghost use Rattle.ns_types.specs.Platform.{aligned};
 ghost use Rattle.v8m_core.specs.Step.{arrived, bxns, goes_in, is_gateway, return_stop, return_to, seen};
-ghost use Rattle.v8m_core.specs.Parts.{done, entry_of, state};
+ghost use Rattle.v8m_core.specs.Parts.{done, entry_of, is_quiet, state};
 
 use crate::Stepped;
 use cm_base::Stop;
@@ -102,7 +102,8 @@ fn return_stop(memory: &Memory, cpu: &Cpu) -> Option<Stop>
 /// A function return: back to Secure code by the two words at SP.
 #[tactic(auto, unfolding(crate::specs::Step::return_to, crate::specs::Step::return_stop, ns_types::specs::Platform::is_readable))]
 fn return_to(memory: &Memory, cpu: &mut Cpu) -> Stepped
-    ensures { return_to memory.now.rom (state cpu.old memory.now.memory) ≡ done cpu.new memory.now.memory result }
+    ensures step { return_to memory.now.rom (state cpu.old memory.now.memory) ≡ done cpu.new memory.now.memory result }
+    ensures quiet { IsTrue (is_quiet result) }
 {
     if let Some(why) = return_stop(memory, cpu) {
         return stop(cpu, why);
@@ -117,8 +118,9 @@ fn return_to(memory: &Memory, cpu: &mut Cpu) -> Stepped
 /// A branch in Non-secure state, or from Secure to Non-secure state: `at` is the program counter of a hand-over,
 /// and `show` what such a step is.
 pub fn arrive(memory: &Memory, cpu: &mut Cpu, target: u32, at: u32, show: Stepped) -> Stepped
-    ensures { arrived memory.now.rom (goes_in memory.now.rom target) at show (state cpu.old memory.now.memory)
+    ensures step { arrived memory.now.rom (goes_in memory.now.rom target) at show (state cpu.old memory.now.memory)
         ≡ done cpu.new memory.now.memory result }
+    ensures quiet { IsTrue (is_quiet show) → IsTrue (is_quiet result) }
 {
     match goes_in(memory, target) {
         Goes::Enter(e) => {

@@ -1,11 +1,12 @@
 //! The machine, and one step of Secure code.
 
-ghost use Rattle.std.specs.Prelude.{◌≡◌, ◌+◌, ◌^◌, ◌<◌, true, false, IfOk, MatchOption, Some, length};
+ghost use Rattle.std.specs.Prelude.{◌≡◌, ◌+◌, ◌^◌, ◌<◌, true, false, IfOk, IsTrue, MatchOption, Some, length};
 ghost use Rattle.ns_types.specs.declared.state.Side.TheVariants as sides;
+ghost use Rattle.ns_types.specs.Boundary.{acted};
 ghost use Rattle.v8m_isa.specs.Table.{decode_of, in_range_of, is_narrow};
 ghost use Rattle.v8m_mem.specs.Rows.{IsStart};
 ghost use Rattle.v8m_core.specs.Step.{act, step_of, turn_of};
-ghost use Rattle.v8m_core.specs.Parts.{done, state};
+ghost use Rattle.v8m_core.specs.Parts.{done, is_quiet, state};
 ghost use Rattle.v8m_core.specs.Reset.{reset_cpu, reset_of};
 
 use crate::Stepped;
@@ -157,10 +158,12 @@ impl Machine {
         step(&mut self.memory, &mut self.cpu)
     }
 
-    /// One turn of Non-secure code.
+    /// One turn of Non-secure code: Went or Stopped. Its Write items change Non-secure RAM, also where it stops.
     pub fn turn(&mut self, turn: &Turn) -> Stepped
         requires { self.old.state.cpu.side ≡ sides.NonSecure }
         ensures rom { self.new.rom ≡ self.old.rom }
+        ensures ram { self.new.state.memory.ns_ram ≡ (acted turn.now.items self.old.state.memory.ns_ram).ram }
+        ensures quiet { IsTrue (is_quiet result) }
         ensures turn { turn_of self.old.rom turn.now self.old.state ≡ record { state = self.new.state; what = result } }
     {
         play(&mut self.memory, &mut self.cpu, turn)

@@ -1,9 +1,9 @@
 //! Turns of Non-secure code.
 
-ghost use Rattle.std.specs.Prelude.{◌≡◌, if◌then◌else◌, is_none};
+ghost use Rattle.std.specs.Prelude.{◌≡◌, if◌then◌else◌, IsTrue, is_none};
 ghost use Rattle.ns_types.specs.Boundary.{acted, item_stop, with_item};
 ghost use Rattle.v8m_core.specs.Step.{set_by, turn_of};
-ghost use Rattle.v8m_core.specs.Parts.{done, state};
+ghost use Rattle.v8m_core.specs.Parts.{done, is_quiet, state};
 
 use crate::Stepped;
 use crate::gates::{align, arrive, stop};
@@ -89,6 +89,8 @@ fn set_by(turn: &Turn, cpu: &mut Cpu)
 #[tactic(auto, unfolding(crate::specs::Step::turn_of))]
 pub fn play(memory: &mut Memory, cpu: &mut Cpu, turn: &Turn) -> Stepped
     ensures rom { memory.new.rom ≡ memory.old.rom }
+    ensures ram { memory.new.memory.ns_ram ≡ (acted turn.now.items memory.old.memory.ns_ram).ram }
+    ensures quiet { IsTrue (is_quiet result) }
     ensures turn { turn_of memory.old.rom turn.now (state cpu.old memory.old.memory) ≡ done cpu.new memory.new.memory result }
 {
     let stopped = act_items(memory, turn.items.as_slice());
