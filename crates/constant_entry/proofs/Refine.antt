@@ -32,7 +32,7 @@ use Rattle.ns_turns.specs.Run as m
 use Rattle.ns_turns.specs.Run.{ends, after, event_of}
 use Rattle.v8m_core.proofs.Runs.{does, has_front, has_back}
 use Rattle.ns_turns.proofs.RunLaws.{run_step, run_turn, run_waits, run_comes, run_spent}
-use Rattle.v8m_core.proofs.Gates.{aligned_even, aligned_twice}
+use Rattle.v8m_core.proofs.GateLaws.{aligned_even, aligned_twice}
 use Rattle.constant_entry.specs.Code.{entry_front, entry_place}
 use Rattle.constant_entry.specs.Shows.{first_veneer, GivesConstant}
 use Rattle.constant_entry.specs.Meaning.{enters_first, gives, need}

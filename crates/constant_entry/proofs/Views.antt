@@ -28,7 +28,7 @@ use Rattle.constant_entry.proofs.States.{sealed, handing, answering}
 use Rattle.constant_entry.specs.Shows.{first_veneer, GivesConstant, CallsFirst, started_view, result_view, two_views, ShowsConstant}
 use Rattle.v8m_core.proofs.Runs.{does, straight, comes_on, has_front, has_back}
 use Rattle.ns_turns.proofs.RunLaws.{run_step, run_turn, run_waits, run_comes, comes_secure, fronts}
-use Rattle.v8m_core.proofs.Gates.{word_at_lt, clear_bit_0, aligned_even, store_ns_rom, bxns_hands, turn_enters}
+use Rattle.v8m_core.proofs.GateLaws.{word_at_lt, clear_bit_0, aligned_even, store_ns_rom, bxns_hands, turn_enters}
 use Rattle.constant_entry.proofs.Pieces.{seal_runs, hand_runs, answer_runs}
 
 -- the last step of code that leaves Secure state by BXNS LR

@@ -26,7 +26,7 @@ use Rattle.ns_turns.specs.Run as m
 use Rattle.ns_turns.specs.Run.{after, event_of, machine_run}
 use Rattle.ns_turns.specs.Refines.{seen_of, Same, Refines}
 use Rattle.v8m_core.proofs.Runs.{does}
-use Rattle.v8m_core.proofs.Gates.{aligned_even, aligned_twice}
+use Rattle.v8m_core.proofs.GateLaws.{aligned_even, aligned_twice}
 use Rattle.v8m_core.proofs.Words.{same_word, other_word, length-put_word}
 use Rattle.ns_turns.proofs.RunLaws.{run_step, run_comes}
 use Rattle.constant_entry.specs.Code.{start_code, start_place}

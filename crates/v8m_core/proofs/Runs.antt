@@ -5,6 +5,7 @@ use Rattle.cm_base.specs.declared.stop.Stop.{Stop}
 use Rattle.cm_base.specs.declared.stop.Stop.TheVariants as stop
 use Rattle.v8m_isa.specs.declared.instr.Instr.{Instr}
 use Rattle.v8m_isa.specs.Table.{Decoded, in_range_of, size_of, code_of, decode_of, is_narrow}
+use Rattle.v8m_isa.proofs.Laws.{decode_of-code_of, decode_of-code_of_narrow, is_narrow-code_of, size_of_two_or_four}
 use Rattle.ns_types.specs.declared.goes.Goes.{Goes}
 use Rattle.ns_types.specs.declared.goes.Goes.TheVariants as goes
 use Rattle.ns_types.specs.declared.state.Cpu.{Cpu}
@@ -18,17 +19,14 @@ use Rattle.v8m_core.specs.declared.effect.Effect.TheVariants as effect
 use Rattle.v8m_core.specs.Step.{Done, went, stopped, unless, fetched, goes_in, seen, arrived, entered, handed, returned, return_stop, return_to, bxns, effect_of, pass, put, write_register, load_stop, store_stop, stored, special, apply, act, act_or, step_of}
 use Rattle.v8m_core.specs.Code.{Holds, HasCode, past, Comes, Follows, Does}
 
--- decoding what was encoded (a law of the instruction table)
+-- decoding what was encoded
 decode-narrow : (i : Instr) → in_range_of i ≡ true → size_of i ≡ 2 → (is_narrow (code_of i).first ≡ true) × (decode_of (code_of i).first 0 ≡ Some (record { instr = i; size = 2 }))
-decode-narrow i r s = ?
+decode-narrow i r s =
+    (is_narrow-code_of i r ∙ ap (λ n. eqb n 2) s, decode_of-code_of_narrow i 0 r s (omega arith) ∙ ap (λ n. let d : Decoded = record { instr = i; size = n } in Some d) s)
+
 decode-wide : (i : Instr) → in_range_of i ≡ true → size_of i ≢ 2 → (is_narrow (code_of i).first ≡ false) × (decode_of (code_of i).first (code_of i).second ≡ Some (record { instr = i; size = size_of i }))
-decode-wide i r s = ?
-
-pub size_cases : (i : Instr) → (size_of i ≡ 2) ⊎ (size_of i ≡ 4)
-size_cases i = ?
-
-pub code_lt : (i : Instr) → ((code_of i).first < 65536) × ((code_of i).second < 65536)
-code_lt i = ?
+decode-wide i r s =
+    (is_narrow-code_of i r ∙ (let four : size_of i ≡ 4 = ⊎_elim (λ e. absurd (s e)) (λ e. e) (size_of_two_or_four i) in ap (λ n. eqb n 2) four), decode_of-code_of i r)
 
 -- a step at an instruction is that instruction's act
 pub does : (rom : List ℕ) (s : State) (i : Instr) → Holds rom s.cpu.pc i → step_of rom s ≡ act rom i (size_of i) s
@@ -54,7 +52,7 @@ does rom s i h =
       ∙ ap (λ t. cond t (act_or rom (decode_of (code_of i).first (fetched rom (pc + 2))) s) (stopped stop.BadState s)) second.0
       ∙ ap (λ b. act_or rom (decode_of (code_of i).first b) s) second.1
       ∙ ap (λ o. act_or rom o s) d.1)
-    (size_cases i)
+    (size_of_two_or_four i)
 
 pub comes_on : (rom : List ℕ) (m n : ℕ) (s t u : State) → Comes rom m s t → Comes rom n t u → Comes rom (m + n) s u
 comes_on rom zero n s t u a b =
