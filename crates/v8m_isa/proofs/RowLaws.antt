@@ -142,7 +142,7 @@ show-fields_put base (f ∷ fs) [] y h z = tt
 show-fields_put base (f ∷ fs) (v ∷ vs) y h z =
     let s = sound_parts base f fs h in
     let turned : bit_or (bit_or y (fields_put fs vs)) (field_put f v) ≡ bit_or y (bit_or (field_put f v) (fields_put fs vs)) =
-        or_assoc y (fields_put fs vs) (field_put f v) ∙ ap (bit_or y) (or_comm (fields_put fs vs) (field_put f v))
+    or_assoc y (fields_put fs vs) (field_put f v) ∙ ap (bit_or y) (or_comm (fields_put fs vs) (field_put f v))
     in
     let here = show-put_all f.pieces (bits_of f.kind v) (bit_or y (fields_put fs vs)) s.apart (AreZero-or f.pieces y (fields_put fs vs) z.0 (AreZero-fields_put f.pieces fs vs s.clear)) in
     let there = show-fields_put base fs vs (bit_or y (field_put f v)) s.rest (AreAllZero-or fs y (field_put f v) z.1 (AreAllZero-put_all f.pieces fs (bits_of f.kind v) s.clear)) in

@@ -65,7 +65,7 @@ is_good r n = are_sound r.base r.fields && (ltb r.base 4294967296 && (all_in_wor
 
 -- the test of the whole table
 table_is_good : (o : Opcode) → is_good (row_of o) (number o) ≡ true
-unfolding row_of
+unfolding row_of choices
 table_is_good op.Mov = refl
 table_is_good _ = refl
 
@@ -392,7 +392,7 @@ made_back o a b lb f =
     let i = instr_of o (numbers_by o a b) in
     let numbers = numbers_back o (numbers_by o a b) f.taken in
     let code : row_code (row_of (opcode_of (instr_of o (numbers_by o a b)))) (numbers_of (instr_of o (numbers_by o a b))) ≡ row_code (row_of o) (numbers_by o a b) =
-        ap (λ q. row_code (row_of q) (numbers_of i)) (opcode_back o (numbers_by o a b)) ∙ ap (row_code r) numbers
+    ap (λ q. row_code (row_of q) (numbers_of i)) (opcode_back o (numbers_by o a b)) ∙ ap (row_code r) numbers
     in
     let low = low_lt r.wide b lb in
     let high : word_by o a b / 2 ^ 16 ≡ a = div-mul-add a (2 ^ 16) (cond (row_of o).wide b 0) low in
