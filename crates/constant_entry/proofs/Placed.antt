@@ -1,0 +1,152 @@
+-- The bytes of Secure ROM hold the program.
+use Rattle.std.proofs.Common.{◌≡◌, ◌≢◌, ℕ, zero, suc, ◌+◌, ◌-◌, ◌*◌, ◌/◌, ◌%◌, ◌<◌, ◌≤◌, ◌⊎◌, Bool, true, false, cond, List, [], ◌∷◌, ◌++◌, length, refl, sym, ap, ◌∙◌, subst, ⊎_elim, inl, inr, arith, append_assoc, length-append}
+use Rattle.std.specs.Prelude.{eqb, ltb, leb, ◌&&◌, slice_index, replicate}
+use Rattle.std.proofs.lemmas.Grind.{common_steps}
+use Rattle.std.proofs.lemmas.Bool.Decides.{nat_tests}
+use Rattle.std.proofs.lemmas.Bool.{cases_lt}
+use Rattle.v8m_isa.specs.declared.instr.Instr.{Instr}
+use Rattle.v8m_isa.specs.declared.instr.Instr.TheVariants.{Mov, Bxns, Udf, Sg, Movw, Movt, Bic, Ldr, Str, B, Msr}
+use Rattle.v8m_isa.specs.Form.{all_taken, takes}
+use Rattle.v8m_isa.specs.Table.{in_range_of, size_of, code_of, opcode_of, numbers_of, row_of}
+use Rattle.ns_types.specs.Platform.{lies_in}
+use Rattle.ns_types.specs.Memory.{half_at, word_at}
+use Rattle.v8m_core.specs.Step.{fetched, is_gateway}
+use Rattle.v8m_core.specs.Code.{HasCode, instr_bytes, code_bytes, AllInRange}
+use Rattle.v8m_core.proofs.Bytes.{half_at_seam, word_at_seam, length_bytes, has_code}
+use Rattle.elf32.specs.Fields.{le32}
+use Rattle.constant_entry.specs.Code.{start_code, entry_code, gateway_code, vectors, used_bytes, gateway_bytes, rom_bytes, start_place, entry_place, stop_place}
+use Rattle.constant_entry.specs.Shows.{first_veneer, GivesConstant}
+
+-- how many bytes code has
+abbrev code_size : List Instr → ℕ
+code_size [] = 0
+code_size (i ∷ is) = size_of i + code_size is
+
+length-code_bytes : (is : List Instr) → length (code_bytes is) ≡ code_size is
+length-code_bytes [] = refl
+length-code_bytes (i ∷ is) = length-append (instr_bytes i) (code_bytes is) ∙ ap (λ n. n + length (code_bytes is)) (length_bytes i) ∙ ap (λ n. size_of i + n) (length-code_bytes is)
+
+start_size : length (code_bytes start_code) ≡ 142
+unfolding size_of opcode_of row_of
+start_size = length-code_bytes start_code
+
+entry_size : (n : ℕ) → length (code_bytes (entry_code n)) ≡ 24
+unfolding size_of opcode_of row_of
+entry_size n = length-code_bytes (entry_code n)
+
+stop_size : length (code_bytes (Udf 0 ∷ [])) ≡ 2
+unfolding size_of opcode_of row_of
+stop_size = length-code_bytes (Udf 0 ∷ [])
+
+gateway_size : length (code_bytes gateway_code) ≡ 8
+unfolding size_of opcode_of row_of
+gateway_size = length-code_bytes gateway_code
+
+-- the test of the ranges, which computes
+abbrev are_in_range : List Instr → Bool
+are_in_range [] = true
+are_in_range (i ∷ is) = in_range_of i && are_in_range is
+
+and_parts : (a b : Bool) → (a && b) ≡ true → (a ≡ true) × (b ≡ true)
+and_parts true b h = (refl, h)
+and_parts false b h = cc
+
+all_in_range : (is : List Instr) → are_in_range is ≡ true → AllInRange is
+all_in_range [] h = tt
+all_in_range (i ∷ is) h = let p = and_parts (in_range_of i) (are_in_range is) h in (p.0, all_in_range is p.1)
+
+start_ranges : AllInRange start_code
+unfolding in_range_of opcode_of row_of numbers_of all_taken takes
+start_ranges = all_in_range start_code refl
+
+gateway_ranges : AllInRange gateway_code
+unfolding in_range_of opcode_of row_of numbers_of all_taken takes
+gateway_ranges = all_in_range gateway_code refl
+
+low_in_range : (n : ℕ) → in_range_of (Movw 0 (n % 65536)) ≡ true
+unfolding in_range_of opcode_of row_of numbers_of all_taken takes
+low_in_range n = let lt : n % 65536 < 65536 = omega arith in let t : ltb (n % 65536) 65536 ≡ true = grind (arith, nat_tests) in ap (λ b. b && true) t
+
+high_in_range : (n : ℕ) → n < 4294967296 → in_range_of (Movt 0 (n / 65536)) ≡ true
+unfolding in_range_of opcode_of row_of numbers_of all_taken takes
+high_in_range n h = let lt : n / 65536 < 65536 = omega arith in let t : ltb (n / 65536) 65536 ≡ true = grind (arith, nat_tests) in ap (λ b. b && true) t
+
+entry_ranges : (n : ℕ) → n < 4294967296 → AllInRange (entry_code n)
+unfolding in_range_of opcode_of row_of numbers_of all_taken takes
+entry_ranges n h = (low_in_range n, (high_in_range n h, rest_ranges))
+  where
+    rest_ranges : AllInRange (Movw 1 0 ∷ Mov 2 1 ∷ Mov 3 1 ∷ Mov 12 1 ∷ Msr 0 1 ∷ Bxns 14 ∷ [])
+    rest_ranges = all_in_range (Movw 1 0 ∷ Mov 2 1 ∷ Mov 3 1 ∷ Mov 12 1 ∷ Msr 0 1 ∷ Bxns 14 ∷ []) refl
+
+length-replicate : (n : ℕ) → length (replicate n 0) ≡ n
+length-replicate n = grind (arith, common_steps)
+
+used_size : (n : ℕ) → length (used_bytes n) ≡ 234
+used_size n =
+    length-append (vectors ++ code_bytes start_code ++ 0 ∷ 0 ∷ [] ++ code_bytes (entry_code n)) (code_bytes (Udf 0 ∷ []))
+    ∙ ap (λ k. k + length (code_bytes (Udf 0 ∷ []))) (length-append (vectors ++ code_bytes start_code ++ 0 ∷ 0 ∷ []) (code_bytes (entry_code n)) ∙ ap (λ k. k + length (code_bytes (entry_code n))) front_size)
+    ∙ ap (λ k. 208 + k + length (code_bytes (Udf 0 ∷ []))) (entry_size n)
+    ∙ ap (λ k. 232 + k) stop_size
+  where
+    front_size : length (vectors ++ code_bytes start_code ++ 0 ∷ 0 ∷ []) ≡ 208
+    front_size = length-append (vectors ++ code_bytes start_code) (0 ∷ 0 ∷ []) ∙ ap (λ k. k + 2) (length-append vectors (code_bytes start_code) ∙ ap (λ k. 64 + k) start_size)
+
+-- seven pieces in a row, cut before any of them
+pieces_2 : (a b x d e z g : List ℕ) → ((((a ++ b) ++ x) ++ d) ++ e) ++ z ++ g ≡ a ++ (b ++ (x ++ (d ++ (e ++ (z ++ g)))))
+pieces_2 a b x d e z g = simp append_assoc
+
+pieces_4 : (a b x d e z g : List ℕ) → ((((a ++ b) ++ x) ++ d) ++ e) ++ z ++ g ≡ ((a ++ b) ++ x) ++ (d ++ (e ++ (z ++ g)))
+pieces_4 a b x d e z g = simp append_assoc
+
+rom_size : (n : ℕ) → length (rom_bytes n) ≡ 4194304
+rom_size n =
+    length-append (used_bytes n ++ replicate (4190208 - length (used_bytes n)) 0) gateway_bytes
+    ∙ ap (λ k. k + length gateway_bytes) (length-append (used_bytes n) (replicate (4190208 - length (used_bytes n)) 0) ∙ ap (λ k. length (used_bytes n) + k) (length-replicate (4190208 - length (used_bytes n))))
+    ∙ ap (λ k. k + (4190208 - k) + length gateway_bytes) (used_size n)
+    ∙ ap (λ k. 4190208 + k) (length-append (code_bytes gateway_code) (replicate 4088 0) ∙ ap (λ k. k + length (replicate 4088 0)) gateway_size ∙ ap (λ k. 8 + k) (length-replicate 4088))
+
+before_size : (n : ℕ) → length (used_bytes n ++ replicate (4190208 - length (used_bytes n)) 0) ≡ 4190208
+before_size n =
+    length-append (used_bytes n) (replicate (4190208 - length (used_bytes n)) 0) ∙ ap (λ k. length (used_bytes n) + k) (length-replicate (4190208 - length (used_bytes n)))
+    ∙ ap (λ k. k + (4190208 - k)) (used_size n)
+
+front_size : length ((vectors ++ code_bytes start_code) ++ 0 ∷ 0 ∷ []) ≡ 208
+front_size = length-append (vectors ++ code_bytes start_code) (0 ∷ 0 ∷ []) ∙ ap (λ k. k + 2) (length-append vectors (code_bytes start_code) ∙ ap (λ k. 64 + k) start_size)
+
+start_stands : (n : ℕ) → HasCode (rom_bytes n) start_place start_code
+start_stands n =
+    has_code start_code (rom_bytes n) vectors _ (pieces_2 vectors (code_bytes start_code) (0 ∷ 0 ∷ []) (code_bytes (entry_code n)) (code_bytes (Udf 0 ∷ [])) (replicate (4190208 - length (used_bytes n)) 0) gateway_bytes) (let e = rom_size n in omega arith) start_ranges
+
+entry_stands : (n : ℕ) → n < 4294967296 → HasCode (rom_bytes n) entry_place (entry_code n)
+entry_stands n h =
+    subst (λ k. HasCode (rom_bytes n) (268435456 + k) (entry_code n)) front_size
+    (has_code (entry_code n) (rom_bytes n) ((vectors ++ code_bytes start_code) ++ 0 ∷ 0 ∷ []) _ (pieces_4 vectors (code_bytes start_code) (0 ∷ 0 ∷ []) (code_bytes (entry_code n)) (code_bytes (Udf 0 ∷ [])) (replicate (4190208 - length (used_bytes n)) 0) gateway_bytes) (let e = rom_size n in omega arith) (entry_ranges n h))
+
+gateway_stands : (n : ℕ) → HasCode (rom_bytes n) first_veneer gateway_code
+gateway_stands n =
+    subst (λ k. HasCode (rom_bytes n) (268435456 + k) gateway_code) (before_size n)
+    (has_code gateway_code (rom_bytes n) (used_bytes n ++ replicate (4190208 - length (used_bytes n)) 0) (replicate 4088 0) refl (let e = rom_size n in omega arith) gateway_ranges)
+
+-- the bytes of the gateway and of the branch behind it
+gateway_cells : code_bytes gateway_code ≡ 127 ∷ 233 ∷ 127 ∷ 233 ∷ 1 ∷ 244 ∷ 100 ∷ 184 ∷ []
+unfolding code_of size_of opcode_of row_of numbers_of
+gateway_cells = refl
+
+-- a halfword behind a front of a list
+half_past : (pre xs : List ℕ) (k o : ℕ) → o ≡ length pre + k → half_at (pre ++ xs) o ≡ half_at xs k
+unfolding half_at
+half_past pre xs k o e =
+    let a : slice_index (pre ++ xs) o ≡ slice_index xs k = grind (arith, common_steps) in
+    let b : slice_index (pre ++ xs) (o + 1) ≡ slice_index xs (k + 1) = grind (arith, common_steps) in
+    ap (λ x. (x + 256 * slice_index (pre ++ xs) (o + 1)) % 65536) a ∙ ap (λ x. (slice_index xs k + 256 * x) % 65536) b
+
+zero_at : (n k : ℕ) → slice_index (replicate n 0) k ≡ 0
+zero_at n k = grind (arith, common_steps)
+
+half_zero : (n k : ℕ) → half_at (replicate n 0) k ≡ 0
+unfolding half_at
+half_zero n k = ap (λ x. (x + 256 * slice_index (replicate n 0) (k + 1)) % 65536) (zero_at n k) ∙ ap (λ x. (0 + 256 * x) % 65536) (zero_at n (k + 1))
+
+-- a halfword of the callable region
+half_there : (n a k : ℕ) → a ≡ 272625664 + k → fetched (rom_bytes n) a ≡ half_at gateway_bytes k
+half_there n a k e = half_past (used_bytes n ++ replicate (4190208 - length (used_bytes n)) 0) gateway_bytes k (a - 268435456) (let b = before_size n in omega arith)
