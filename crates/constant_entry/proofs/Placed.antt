@@ -6,7 +6,7 @@ use Rattle.std.proofs.lemmas.Bool.Decides.{nat_tests}
 use Rattle.std.proofs.lemmas.Bool.{cases_lt}
 use Rattle.v8m_isa.specs.declared.instr.Instr.{Instr}
 use Rattle.v8m_isa.specs.declared.instr.Instr.TheVariants.{Mov, Bxns, Udf, Sg, Movw, Movt, Bic, Ldr, Str, B, Msr}
-use Rattle.v8m_isa.specs.Form.{all_taken, takes}
+use Rattle.v8m_isa.specs.Form.{all_taken, takes, word_of, fields_put, put_all, bits_of, turn}
 use Rattle.v8m_isa.specs.Table.{in_range_of, size_of, code_of, opcode_of, numbers_of, row_of}
 use Rattle.ns_types.specs.Platform.{lies_in}
 use Rattle.ns_types.specs.Memory.{half_at, word_at}
@@ -78,7 +78,10 @@ entry_ranges n h = (low_in_range n, (high_in_range n h, rest_ranges))
     rest_ranges : AllInRange (Movw 1 0 ∷ Mov 2 1 ∷ Mov 3 1 ∷ Mov 12 1 ∷ Msr 0 1 ∷ Bxns 14 ∷ [])
     rest_ranges = all_in_range (Movw 1 0 ∷ Mov 2 1 ∷ Mov 3 1 ∷ Mov 12 1 ∷ Msr 0 1 ∷ Bxns 14 ∷ []) refl
 
-length-replicate : (n : ℕ) → length (replicate n 0) ≡ n
+abbrev zeros : ℕ → List ℕ
+zeros n = replicate n 0
+
+length-replicate : (n : ℕ) → length (zeros n) ≡ n
 length-replicate n = grind (arith, common_steps)
 
 used_size : (n : ℕ) → length (used_bytes n) ≡ 234
@@ -100,14 +103,14 @@ pieces_4 a b x d e z g = simp append_assoc
 
 rom_size : (n : ℕ) → length (rom_bytes n) ≡ 4194304
 rom_size n =
-    length-append (used_bytes n ++ replicate (4190208 - length (used_bytes n)) 0) gateway_bytes
-    ∙ ap (λ k. k + length gateway_bytes) (length-append (used_bytes n) (replicate (4190208 - length (used_bytes n)) 0) ∙ ap (λ k. length (used_bytes n) + k) (length-replicate (4190208 - length (used_bytes n))))
+    length-append (used_bytes n ++ zeros (4190208 - length (used_bytes n))) gateway_bytes
+    ∙ ap (λ k. k + length gateway_bytes) (length-append (used_bytes n) (zeros (4190208 - length (used_bytes n))) ∙ ap (λ k. length (used_bytes n) + k) (length-replicate (4190208 - length (used_bytes n))))
     ∙ ap (λ k. k + (4190208 - k) + length gateway_bytes) (used_size n)
-    ∙ ap (λ k. 4190208 + k) (length-append (code_bytes gateway_code) (replicate 4088 0) ∙ ap (λ k. k + length (replicate 4088 0)) gateway_size ∙ ap (λ k. 8 + k) (length-replicate 4088))
+    ∙ ap (λ k. 4190208 + k) (length-append (code_bytes gateway_code) (zeros 4088) ∙ ap (λ k. k + length (zeros 4088)) gateway_size ∙ ap (λ k. 8 + k) (length-replicate 4088))
 
-before_size : (n : ℕ) → length (used_bytes n ++ replicate (4190208 - length (used_bytes n)) 0) ≡ 4190208
+before_size : (n : ℕ) → length (used_bytes n ++ zeros (4190208 - length (used_bytes n))) ≡ 4190208
 before_size n =
-    length-append (used_bytes n) (replicate (4190208 - length (used_bytes n)) 0) ∙ ap (λ k. length (used_bytes n) + k) (length-replicate (4190208 - length (used_bytes n)))
+    length-append (used_bytes n) (zeros (4190208 - length (used_bytes n))) ∙ ap (λ k. length (used_bytes n) + k) (length-replicate (4190208 - length (used_bytes n)))
     ∙ ap (λ k. k + (4190208 - k)) (used_size n)
 
 front_size : length ((vectors ++ code_bytes start_code) ++ 0 ∷ 0 ∷ []) ≡ 208
@@ -115,21 +118,21 @@ front_size = length-append (vectors ++ code_bytes start_code) (0 ∷ 0 ∷ []) �
 
 start_stands : (n : ℕ) → HasCode (rom_bytes n) start_place start_code
 start_stands n =
-    has_code start_code (rom_bytes n) vectors _ (pieces_2 vectors (code_bytes start_code) (0 ∷ 0 ∷ []) (code_bytes (entry_code n)) (code_bytes (Udf 0 ∷ [])) (replicate (4190208 - length (used_bytes n)) 0) gateway_bytes) (let e = rom_size n in omega arith) start_ranges
+    has_code start_code (rom_bytes n) vectors _ (pieces_2 vectors (code_bytes start_code) (0 ∷ 0 ∷ []) (code_bytes (entry_code n)) (code_bytes (Udf 0 ∷ [])) (zeros (4190208 - length (used_bytes n))) gateway_bytes) (let e = rom_size n in omega arith) start_ranges
 
 entry_stands : (n : ℕ) → n < 4294967296 → HasCode (rom_bytes n) entry_place (entry_code n)
 entry_stands n h =
     subst (λ k. HasCode (rom_bytes n) (268435456 + k) (entry_code n)) front_size
-    (has_code (entry_code n) (rom_bytes n) ((vectors ++ code_bytes start_code) ++ 0 ∷ 0 ∷ []) _ (pieces_4 vectors (code_bytes start_code) (0 ∷ 0 ∷ []) (code_bytes (entry_code n)) (code_bytes (Udf 0 ∷ [])) (replicate (4190208 - length (used_bytes n)) 0) gateway_bytes) (let e = rom_size n in omega arith) (entry_ranges n h))
+    (has_code (entry_code n) (rom_bytes n) ((vectors ++ code_bytes start_code) ++ 0 ∷ 0 ∷ []) _ (pieces_4 vectors (code_bytes start_code) (0 ∷ 0 ∷ []) (code_bytes (entry_code n)) (code_bytes (Udf 0 ∷ [])) (zeros (4190208 - length (used_bytes n))) gateway_bytes) (let e = rom_size n in omega arith) (entry_ranges n h))
 
 gateway_stands : (n : ℕ) → HasCode (rom_bytes n) first_veneer gateway_code
 gateway_stands n =
     subst (λ k. HasCode (rom_bytes n) (268435456 + k) gateway_code) (before_size n)
-    (has_code gateway_code (rom_bytes n) (used_bytes n ++ replicate (4190208 - length (used_bytes n)) 0) (replicate 4088 0) refl (let e = rom_size n in omega arith) gateway_ranges)
+    (has_code gateway_code (rom_bytes n) (used_bytes n ++ zeros (4190208 - length (used_bytes n))) (zeros 4088) refl (let e = rom_size n in omega arith) gateway_ranges)
 
 -- the bytes of the gateway and of the branch behind it
 gateway_cells : code_bytes gateway_code ≡ 127 ∷ 233 ∷ 127 ∷ 233 ∷ 1 ∷ 244 ∷ 100 ∷ 184 ∷ []
-unfolding code_of size_of opcode_of row_of numbers_of
+unfolding code_of size_of opcode_of row_of numbers_of word_of fields_put put_all bits_of turn
 gateway_cells = refl
 
 -- a halfword behind a front of a list
@@ -140,13 +143,21 @@ half_past pre xs k o e =
     let b : slice_index (pre ++ xs) (o + 1) ≡ slice_index xs (k + 1) = grind (arith, common_steps) in
     ap (λ x. (x + 256 * slice_index (pre ++ xs) (o + 1)) % 65536) a ∙ ap (λ x. (slice_index xs k + 256 * x) % 65536) b
 
-zero_at : (n k : ℕ) → slice_index (replicate n 0) k ≡ 0
+zero_at : (n k : ℕ) → slice_index (zeros n) k ≡ 0
 zero_at n k = grind (arith, common_steps)
 
-half_zero : (n k : ℕ) → half_at (replicate n 0) k ≡ 0
+half_zero : (n k : ℕ) → half_at (zeros n) k ≡ 0
 unfolding half_at
-half_zero n k = ap (λ x. (x + 256 * slice_index (replicate n 0) (k + 1)) % 65536) (zero_at n k) ∙ ap (λ x. (0 + 256 * x) % 65536) (zero_at n (k + 1))
+half_zero n k = ap (λ x. (x + 256 * slice_index (zeros n) (k + 1)) % 65536) (zero_at n k) ∙ ap (λ x. (0 + 256 * x) % 65536) (zero_at n (k + 1))
 
 -- a halfword of the callable region
 half_there : (n a k : ℕ) → a ≡ 272625664 + k → fetched (rom_bytes n) a ≡ half_at gateway_bytes k
-half_there n a k e = half_past (used_bytes n ++ replicate (4190208 - length (used_bytes n)) 0) gateway_bytes k (a - 268435456) (let b = before_size n in omega arith)
+half_there n a k e = half_past (used_bytes n ++ zeros (4190208 - length (used_bytes n))) gateway_bytes k (a - 268435456) (let b = before_size n in omega arith)
+
+pub code_bytes-is : (is : List Instr) → code_bytes is ≡ flat_map instr_bytes is
+code_bytes-is [] = refl
+code_bytes-is (i ∷ is) = ap (λ l. instr_bytes i ++ l) (code_bytes-is is)
+
+-- every instruction of the code is in range
+pub start_all : All (λ i. IsTrue (in_range_of i)) start_code
+start_all = All-from_recursion (λ i. IsTrue (in_range_of i)) start_code (by_recursion start_code start_ranges)
