@@ -1,12 +1,11 @@
 -- What the crates above know of instructions and their halfwords.
-use Rattle.std.proofs.Common.{◌≡◌, ℕ, ◌+◌, ◌*◌, ◌/◌, ◌%◌, ◌^◌, ◌<◌, ◌≤◌, Bool, true, false, ◌&&◌, ◌⊎◌, refl, sym, ap, ◌∙◌, subst, ⊎_elim, inl, inr, arith, Option, Some, None, IfSome, eq-eqb}
-use Rattle.std.specs.Prelude.{eqb, ltb, option_map, is_some, IfNone}
+use Rattle.std.proofs.Common.{◌≡◌, ℕ, ◌/◌, ◌%◌, ◌^◌, ◌<◌, ◌≤◌, true, false, ◌⊎◌, refl, sym, ap, ◌∙◌, subst, ⊎_elim, inl, inr, arith, Option, Some, None, IfSome, eq-eqb}
+use Rattle.std.specs.Prelude.{eqb, option_map, is_some, IfNone}
 use Rattle.std.proofs.lemmas.Bool.Decides.{nat_tests}
 use Rattle.v8m_isa.specs.declared.instr.Instr.{Instr}
 use Rattle.v8m_isa.specs.Table.{in_range_of, size_of, code_of, Decoded, decode_of, is_of_two_bytes, is_narrow, pair_of, read_by, IsReadAs, IsNoInstr}
 use Rattle.v8m_isa.specs.declared.table.Opcode.{Opcode}
 use Rattle.v8m_isa.specs.Choice.{chosen, choices}
-use Rattle.v8m_isa.proofs.PieceLaws.{and_parts}
 use Rattle.v8m_isa.proofs.TableLaws as table
 use Rattle.v8m_isa.proofs.TableLaws.{decode-code_of, code_of-decode, size_of_cases, size_by_top}
 

@@ -1,10 +1,10 @@
 -- Laws of the pieces of a field: a slot is some neighbouring bits of a word.
-use Rattle.std.proofs.Common.{◌≡◌, ℕ, zero, suc, ◌+◌, ◌-◌, ◌*◌, ◌/◌, ◌%◌, ◌^◌, ◌<◌, ◌≤◌, max, Bool, true, false, ◌&&◌, ◌||◌, ◌⊎◌, List, [], ◌∷◌, refl, sym, ap, ◌∙◌, subst, ⊎_elim, inl, inr, arith, bit_or, length, drop, get_or}
-use Rattle.std.specs.Prelude.{eqb, ltb, leb}
+use Rattle.std.proofs.Common.{◌≡◌, ℕ, ◌+◌, ◌-◌, ◌*◌, ◌/◌, ◌%◌, ◌^◌, ◌<◌, ◌≤◌, max, Bool, true, false, ◌&&◌, ◌||◌, ◌⊎◌, List, [], ◌∷◌, refl, sym, ap, ◌∙◌, subst, ⊎_elim, inl, inr, arith, bit_or, length, drop, get_or}
+use Rattle.std.specs.Prelude.{eqb, leb}
 use Rattle.std.specs.Int.{bit_at}
 use Rattle.std.specs.Int.Bits.{or_zero_l, or_zero_r}
 use Rattle.std.proofs.lemmas.Bool.Decides.{nat_tests}
-use Rattle.std.proofs.lemmas.Nat.{one_shl, or_shr, or_mod, or_comm, or_shifted, or_lt, mod-pow-add, shl-shr, pow-add, shl_below, mod_below, pow_pos}
+use Rattle.std.proofs.lemmas.Nat.{one_shl, or_shr, or_mod, or_shifted, mod-pow-add, shl-shr, pow-add, shl_below, mod_below, pow_pos}
 use Rattle.std.proofs.lemmas.Nat.Bits.{bit_at_or, same_from_bits}
 use Rattle.std.proofs.lemmas.List.{drop_more, drop_all}
 use Rattle.std.proofs.Math.Nat.{mod-eq_of_lt, mul-mod_left, pow-le-pow_right, mod-one}

@@ -1,8 +1,8 @@
 -- Laws of rows: a word of some numbers has those numbers, and its fixed bits.
-use Rattle.std.proofs.Common.{◌≡◌, ℕ, zero, suc, ◌+◌, ◌-◌, ◌*◌, ◌/◌, ◌%◌, ◌^◌, ◌<◌, ◌≤◌, Bool, true, false, cond, ◌&&◌, ◌||◌, List, [], ◌∷◌, ◌++◌, refl, sym, ap, ◌∙◌, subst, ⊎_elim, arith, bit_or, length, drop, take, get_or, map, slice_set}
-use Rattle.std.specs.Prelude.{eqb, ltb, leb}
+use Rattle.std.proofs.Common.{◌≡◌, ℕ, ◌+◌, ◌/◌, ◌%◌, ◌^◌, ◌<◌, ◌≤◌, Bool, true, ◌&&◌, List, [], ◌∷◌, ◌++◌, refl, sym, ap, ◌∙◌, subst, arith, bit_or, length, drop, take, get_or, slice_set}
+use Rattle.std.specs.Prelude.{eqb, ltb}
 use Rattle.std.specs.List.{list_all}
-use Rattle.std.specs.Int.Bits.{or_zero_l, or_zero_r}
+use Rattle.std.specs.Int.Bits.{or_zero_r}
 use Rattle.std.proofs.lemmas.Bool.Decides.{nat_tests}
 use Rattle.std.proofs.lemmas.List.{drop_more, drop_all, take_more_set, take_more, get_or-map, length-map}
 use Rattle.std.proofs.lemmas.Nat.{or_comm, or_lt, shl_below, mod_below, pow_pos}
@@ -10,9 +10,9 @@ use Rattle.std.proofs.Math.Nat.{mod-eq_of_lt, pow-le-pow_right}
 use Rattle.v8m_isa.specs.declared.form.Piece.{Piece}
 use Rattle.v8m_isa.specs.declared.form.Field.{Field}
 use Rattle.v8m_isa.specs.declared.form.Kind.{Kind}
-use Rattle.v8m_isa.specs.Form.{put, put_all, got_all, is_in_word, are_in_word, all_in_word, bits_of, number_of, field_put, field_got, field_takes, fields_put, fields_got, all_taken, word_of, Row}
+use Rattle.v8m_isa.specs.Form.{put, put_all, is_in_word, are_in_word, all_in_word, bits_of, number_of, field_put, field_got, field_takes, fields_put, fields_got, all_taken, word_of, Row}
 use Rattle.v8m_isa.proofs.PieceLaws.{or_assoc, and_parts, slot, slot_or, slot_zero, slot_or_zero, slot-put_all, is_clear, AreZero, AreZero-zero, AreZero-or, AreZero-put, Show, width, is_whole, are_apart, got_all-show, show-put_all}
-use Rattle.v8m_isa.proofs.KindLaws.{has_width, Shown, shown}
+use Rattle.v8m_isa.proofs.KindLaws.{has_width, shown}
 
 -- the loops over the fields
 pub fields_put_more : (fs : List Field) (vs : List ℕ) (k w y : ℕ) (d : Field) (e : ℕ) → k < length fs → k < length vs → y ≡ field_put (get_or fs k d) (get_or vs k e) → bit_or (bit_or w y) (fields_put (drop (k + 1) fs) (drop (k + 1) vs)) ≡ bit_or w (fields_put (drop k fs) (drop k vs))

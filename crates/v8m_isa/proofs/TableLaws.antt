@@ -1,9 +1,9 @@
 -- The tests of the table, and the two ways between instructions and halfwords.
-use Rattle.std.proofs.Common.{◌≡◌, ℕ, zero, suc, ◌+◌, ◌-◌, ◌*◌, ◌/◌, ◌%◌, ◌^◌, ◌<◌, ◌≤◌, Bool, true, false, cond, ◌&&◌, ◌||◌, ◌⊎◌, List, [], ◌∷◌, refl, sym, ap, ◌∙◌, subst, ⊎_elim, inl, inr, arith, bit_or, Option, Some, None, eq-eqb}
+use Rattle.std.proofs.Common.{◌≡◌, ℕ, ◌+◌, ◌-◌, ◌*◌, ◌/◌, ◌%◌, ◌^◌, ◌<◌, ◌≤◌, Bool, true, false, cond, ◌&&◌, ◌||◌, ◌⊎◌, List, [], ◌∷◌, refl, sym, ap, ◌∙◌, subst, ⊎_elim, inl, inr, arith, bit_or, Option, Some, None, eq-eqb}
 use Rattle.std.specs.Prelude.{eqb, ltb, leb, slice_index, slice_index_or, option_map}
 use Rattle.std.specs.Int.Bits.{or_zero_l}
 use Rattle.std.proofs.lemmas.Bool.Decides.{nat_tests}
-use Rattle.std.proofs.lemmas.Nat.{shr-shr, or_shifted, pow-add, div-mul-add, mod-mul-add}
+use Rattle.std.proofs.lemmas.Nat.{shr-shr, or_shifted, div-mul-add, mod-mul-add}
 use Rattle.v8m_isa.specs.declared.instr.Instr.{Instr}
 use Rattle.v8m_isa.specs.declared.instr.Instr.TheVariants.{Mov, Bxns, Udf, Sg, Movw, Movt, Bic, Ldr, Str, B, Msr}
 use Rattle.v8m_isa.specs.declared.instr.Code.{Code}
@@ -11,8 +11,8 @@ use Rattle.v8m_isa.specs.declared.form.Field.{Field}
 use Rattle.v8m_isa.specs.declared.table.Opcode.{Opcode}
 use Rattle.v8m_isa.specs.declared.table.Opcode.TheVariants as op
 use Rattle.v8m_isa.specs.declared.table.TheConstants.{BLANK}
-use Rattle.v8m_isa.specs.Form.{Row, takes, field_takes, fields_got, all_taken, all_in_word, word_of, row_size, row_code, word_in, fits, numbers_in}
-use Rattle.v8m_isa.specs.Table.{opcodes, row_of, opcode_of, numbers_of, instr_of, in_range_of, size_of, code_of, Decoded, read_by, or_else, first_of, decode_of, IsReadAs, IsNoInstr}
+use Rattle.v8m_isa.specs.Form.{Row, takes, field_takes, fields_got, all_taken, all_in_word, word_of, row_size, row_code, word_in, fits}
+use Rattle.v8m_isa.specs.Table.{opcodes, row_of, opcode_of, numbers_of, instr_of, in_range_of, size_of, code_of, Decoded, read_by, or_else, first_of, decode_of, IsReadAs}
 use Rattle.v8m_isa.specs.Choice.{Choice, none, only, first_is, second_is, chosen, choices}
 use Rattle.v8m_isa.proofs.PieceLaws.{and_parts, or_parts, slot, slot_or, above}
 use Rattle.v8m_isa.proofs.RowLaws.{is_clear_of, are_sound, slot-word_of, fields_got-word_of, word_of_lt}
