@@ -22,9 +22,9 @@ fn put(bytes: &mut Bytes, at: usize, halfwords: &[u16])
     for h in halfwords {
         if o < bytes.len() {
             bytes.set(o, (*h % 256) as u8);
-        }
-        if o < bytes.len() - 1 {
-            bytes.set(o + 1, (*h / 256) as u8);
+            if o + 1 < bytes.len() {
+                bytes.set(o + 1, (*h / 256) as u8);
+            }
         }
         o = o.wrapping_add(2);
     }
