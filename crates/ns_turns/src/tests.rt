@@ -1,6 +1,6 @@
 //! A run with turns: its events in order, and the end by the test that comes first.
 
-ghost use Rattle.std.specs.Prelude.{◌≡◌, IfOk, length};
+ghost use Rattle.std.specs.Prelude.{◌≡◌, IfOk, vec_len};
 
 use crate::run;
 use cm_base::{Bytes, List, NoMemory, Stop};
@@ -9,22 +9,20 @@ use std::alloc::Global;
 use std::test::Fail;
 use v8m_core::{Image, Machine};
 
-fn filled(alloc: Global, n: usize) -> Result<Bytes, NoMemory>
-    ensures { IfOk result (λ b. length b ≡ n) }
+fn filled(alloc: Global, n: usize) -> Result<Vec<u8>, NoMemory>
+    ensures { IfOk result (λ b. vec_len b ≡ n) }
 {
-    Ok(Bytes::from_vec(vec![in alloc; 0; n]?))
+    Ok(vec![in alloc; 0; n]?)
 }
 
 /// Puts halfwords into bytes.
-fn put(bytes: &mut Bytes, at: usize, halfwords: &[u16])
-    ensures { length bytes.new ≡ length bytes.old }
-{
+fn put(bytes: &mut [u8], at: usize, halfwords: &[u16]) {
     let mut o = at;
     for h in halfwords {
         if o < bytes.len() {
-            bytes.set(o, (*h % 256) as u8);
+            bytes[o] = (*h % 256) as u8;
             if o + 1 < bytes.len() {
-                bytes.set(o + 1, (*h / 256) as u8);
+                bytes[o + 1] = (*h / 256) as u8;
             }
         }
         o = o.wrapping_add(2);
@@ -42,11 +40,14 @@ fn machine(alloc: Global) -> Result<Machine, NoMemory> {
         &[0xE97F, 0xE97F, 0xF8C0, 0x1000, 0x4774],
     );
     let start = Start {
-        secure_ram: filled(alloc, 0x1_A000)?,
-        ns_ram: filled(alloc, 0x2_0000)?,
-        ns_rom: filled(alloc, 0x4_0000)?,
+        secure_ram: Bytes::from_vec(filled(alloc, 0x1_A000)?),
+        ns_ram: Bytes::from_vec(filled(alloc, 0x2_0000)?),
+        ns_rom: Bytes::from_vec(filled(alloc, 0x4_0000)?),
     };
-    Machine::new(alloc, &Image { rom }, &start)
+    let image = Image {
+        rom: Bytes::from_vec(rom),
+    };
+    Machine::new(alloc, &image, &start)
 }
 
 fn turn(alloc: Global, r0: u32, target: u32) -> Result<Turn, NoMemory> {

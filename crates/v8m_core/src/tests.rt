@@ -1,6 +1,6 @@
 //! Expected values from the instruction manual and the table of regions; the halfwords are an assembler's.
 
-ghost use Rattle.std.specs.Prelude.{◌≡◌, IfOk, length};
+ghost use Rattle.std.specs.Prelude.{◌≡◌, IfOk, vec_len};
 
 use crate::{Image, Machine, Stepped};
 use cm_base::{Bytes, List, NoMemory, Stop};
@@ -8,22 +8,20 @@ use ns_types::{Item, Side, Start, Turn, View};
 use std::alloc::Global;
 use std::test::Fail;
 
-fn filled(alloc: Global, n: usize, byte: u8) -> Result<Bytes, NoMemory>
-    ensures { IfOk result (λ b. length b ≡ n) }
+fn filled(alloc: Global, n: usize, byte: u8) -> Result<Vec<u8>, NoMemory>
+    ensures { IfOk result (λ b. vec_len b ≡ n) }
 {
-    Ok(Bytes::from_vec(vec![in alloc; byte; n]?))
+    Ok(vec![in alloc; byte; n]?)
 }
 
 /// Puts halfwords into bytes.
-fn put(bytes: &mut Bytes, at: usize, halfwords: &[u16])
-    ensures { length bytes.new ≡ length bytes.old }
-{
+fn put(bytes: &mut [u8], at: usize, halfwords: &[u16]) {
     let mut o = at;
     for h in halfwords {
         if o < bytes.len() {
-            bytes.set(o, (*h % 256) as u8);
+            bytes[o] = (*h % 256) as u8;
             if o + 1 < bytes.len() {
-                bytes.set(o + 1, (*h / 256) as u8);
+                bytes[o + 1] = (*h / 256) as u8;
             }
         }
         o = o.wrapping_add(2);
@@ -41,11 +39,14 @@ fn machine(alloc: Global, code: &[u16], words: &[u16]) -> Result<Machine, NoMemo
     let mut secure_ram = filled(alloc, 0x1_A000, 0)?;
     put(&mut secure_ram, 0x1_7FF8, words);
     let start = Start {
-        secure_ram,
-        ns_ram: filled(alloc, 0x2_0000, 0)?,
-        ns_rom: filled(alloc, 0x4_0000, 0)?,
+        secure_ram: Bytes::from_vec(secure_ram),
+        ns_ram: Bytes::from_vec(filled(alloc, 0x2_0000, 0)?),
+        ns_rom: Bytes::from_vec(filled(alloc, 0x4_0000, 0)?),
     };
-    Machine::new(alloc, &Image { rom }, &start)
+    let image = Image {
+        rom: Bytes::from_vec(rom),
+    };
+    Machine::new(alloc, &image, &start)
 }
 
 /// A step, or a turn where Non-secure code runs.
