@@ -1,8 +1,10 @@
 -- The bytes of Secure ROM hold the program.
-use Rattle.std.proofs.Common.{◌≡◌, ◌≢◌, ℕ, zero, suc, ◌+◌, ◌-◌, ◌*◌, ◌/◌, ◌%◌, ◌<◌, ◌≤◌, ◌⊎◌, Bool, true, false, cond, List, [], ◌∷◌, ◌++◌, length, refl, sym, ap, ◌∙◌, subst, ⊎_elim, inl, inr, arith, append_assoc, length-append}
+use Rattle.std.proofs.Common.{◌≡◌, ◌≢◌, ℕ, zero, suc, ◌+◌, ◌-◌, ◌*◌, ◌/◌, ◌%◌, ◌<◌, ◌≤◌, ◌⊎◌, Bool, true, false, cond, List, [], ◌∷◌, ◌++◌, length, refl, sym, ap, ◌∙◌, subst, ⊎_elim, inl, inr, arith, append_assoc, length-append, All, flat_map, IsTrue}
 use Rattle.std.specs.Prelude.{eqb, ltb, leb, ◌&&◌, slice_index, replicate}
 use Rattle.std.proofs.lemmas.Grind.{common_steps}
 use Rattle.std.proofs.lemmas.Bool.Decides.{nat_tests}
+use Rattle.std.specs.List.{AllByRecursion}
+use Rattle.std.proofs.lemmas.List.Elements.{All-from_recursion}
 use Rattle.std.proofs.lemmas.Bool.{cases_lt}
 use Rattle.v8m_isa.specs.declared.instr.Instr.{Instr}
 use Rattle.v8m_isa.specs.declared.instr.Instr.TheVariants.{Mov, Bxns, Udf, Sg, Movw, Movt, Bic, Ldr, Str, B, Msr}
@@ -11,7 +13,8 @@ use Rattle.v8m_isa.specs.Table.{in_range_of, size_of, code_of, opcode_of, number
 use Rattle.ns_types.specs.Platform.{lies_in}
 use Rattle.ns_types.specs.Memory.{half_at, word_at}
 use Rattle.v8m_core.specs.Step.{fetched, is_gateway}
-use Rattle.v8m_core.specs.Code.{HasCode, instr_bytes, code_bytes, AllInRange}
+use Rattle.v8m_isa.proofs.Laws.{size-code_of, size_of_two_or_four}
+use Rattle.v8m_core.specs.Code.{two, HasCode, instr_bytes, code_bytes, AllInRange}
 use Rattle.v8m_core.proofs.Bytes.{half_at_seam, word_at_seam, length_bytes, has_code}
 use Rattle.elf32.specs.Fields.{le32}
 use Rattle.constant_entry.specs.Code.{start_code, entry_code, gateway_code, vectors, used_bytes, gateway_bytes, rom_bytes, start_place, entry_place, stop_place}
@@ -159,5 +162,32 @@ code_bytes-is [] = refl
 code_bytes-is (i ∷ is) = ap (λ l. instr_bytes i ++ l) (code_bytes-is is)
 
 -- every instruction of the code is in range
+by_recursion : (is : List Instr) → AllInRange is → AllByRecursion (λ i. IsTrue (in_range_of i)) is
+by_recursion [] h = tt
+by_recursion (i ∷ is) h = (h.0, by_recursion is h.1)
+
+all_of : (is : List Instr) → AllInRange is → All (λ i. IsTrue (in_range_of i)) is
+all_of is h = All-from_recursion (λ i. IsTrue (in_range_of i)) is (by_recursion is h)
+
 pub start_all : All (λ i. IsTrue (in_range_of i)) start_code
-start_all = All-from_recursion (λ i. IsTrue (in_range_of i)) start_code (by_recursion start_code start_ranges)
+start_all = all_of start_code start_ranges
+
+pub entry_all : (n : ℕ) → n < 4294967296 → All (λ i. IsTrue (in_range_of i)) (entry_code n)
+entry_all n h = all_of (entry_code n) (entry_ranges n h)
+
+pub stop_all : All (λ i. IsTrue (in_range_of i)) (Udf 0 ∷ [])
+unfolding in_range_of opcode_of row_of numbers_of all_taken takes
+stop_all = all_of (Udf 0 ∷ []) (all_in_range (Udf 0 ∷ []) refl)
+
+pub gateway_all : All (λ i. IsTrue (in_range_of i)) gateway_code
+gateway_all = all_of gateway_code gateway_ranges
+
+-- an instruction's bytes, as they are written
+pub instr_wide : (i : Instr) (s : ℕ) → (code_of i).size ≡ s → s ≡ 4 → instr_bytes i ≡ two (code_of i).first ++ two (code_of i).second
+instr_wide i s e f =
+    ap (λ n. cond (eqb n 2) (two (code_of i).first) (two (code_of i).first ++ two (code_of i).second)) (sym (size-code_of i) ∙ e ∙ f)
+
+pub instr_narrow : (i : Instr) (s : ℕ) → (code_of i).size ≡ s → s ≢ 4 → instr_bytes i ≡ two (code_of i).first
+instr_narrow i s e f =
+    let n : size_of i ≡ 2 = ⊎_elim (λ t. t) (λ t. absurd (f (sym e ∙ size-code_of i ∙ t))) (size_of_two_or_four i) in
+    ap (λ n. cond (eqb n 2) (two (code_of i).first) (two (code_of i).first ++ two (code_of i).second)) n

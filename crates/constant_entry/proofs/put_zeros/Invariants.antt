@@ -1,5 +1,5 @@
 use Rattle.std.proofs.Common.{◌≡◌, ◌++◌, replicate}
 use Rattle.constant_entry.proofs.put_zeros.Given as goal
 
-abbrev pub invariant-loop-_done : goal.invariant-loop-_done
-invariant-loop-_done l = l.to ≡ l.fn.to ++ replicate l._done 0
+abbrev pub invariant-loop-done : goal.invariant-loop-done
+invariant-loop-done l = l.to ≡ l.fn.to ++ replicate l.done 0
