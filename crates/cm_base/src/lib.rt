@@ -4,12 +4,14 @@
 
 mod list;
 mod memory;
+mod outside;
 mod place;
 mod regions;
 mod stop;
 
 pub use list::{Bytes, List, Text};
 pub use memory::NoMemory;
+pub use outside::{Sink, Store, StoreFault};
 pub use place::{Place, Refusal};
 pub use regions::{PLATFORM, Regions, Row};
 pub use stop::Stop;
