@@ -1,0 +1,6 @@
+//! From sources to an image and an import library, and from an image to the ROM.
+#![tactic(auto)]
+
+mod constant;
+
+pub use constant::{one_constant, read_constant};
