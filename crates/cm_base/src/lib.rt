@@ -3,6 +3,8 @@
 #![tactic(auto)]
 
 mod list;
+mod mem_sink;
+mod mem_store;
 mod memory;
 mod outside;
 mod place;
@@ -10,6 +12,8 @@ mod regions;
 mod stop;
 
 pub use list::{Bytes, List, Text};
+pub use mem_sink::MemSink;
+pub use mem_store::MemStore;
 pub use memory::NoMemory;
 pub use outside::{Sink, Store, StoreFault};
 pub use place::{Place, Refusal};
