@@ -72,3 +72,11 @@ after_failed_put s = record s {
 -- the sink after a put that was done
 abbrev pub after_put : SinkState → List ℕ → SinkState
 after_put s bytes = record s { given = s.given ++ bytes; calls = next_count s.calls }
+
+-- the counts of the reads and of the writes that failed
+pub record FaultCounts : Type 0 where
+  pub reads : ℕ
+  pub writes : ℕ
+
+abbrev pub no_faults : FaultCounts
+no_faults = record { reads = 0; writes = 0 }
