@@ -14,7 +14,7 @@ file_at (file ∷ files) name = if bytes_eq file.0 name then Some file.1 else fi
 abbrev pub with_file : Files → List ℕ → List ℕ → Files
 with_file [] name bytes = (name, bytes) ∷ []
 with_file (file ∷ files) name bytes =
-    if bytes_eq file.0 name then (file.0, bytes) ∷ files else file ∷ with_file files name bytes
+    if bytes_eq file.0 name then (name, bytes) ∷ files else file ∷ with_file files name bytes
 
 -- no two files have one name
 abbrev pub NamesDiffer : Files → Type 0
