@@ -2,5 +2,7 @@
 #![tactic(auto)]
 
 mod constant;
+mod image;
 
 pub use constant::{one_constant, read_constant};
+pub use image::{Gate, write_image};
