@@ -3,7 +3,7 @@ use Rattle.std.proofs.Common.{◌≡◌, ◌≢◌, ℕ, ◌+◌, ◌<◌, ◌�
 use Rattle.std.proofs.lemmas.List.{take_more}
 use Rattle.std.proofs.lemmas.Slice.Eq.{bytes_eq-Decides}
 use Rattle.cm_base.specs.InMemory.{IsPlaceOf}
-use Rattle.cm_base.specs.Outside.{Files, file_at, with_file, NamesDiffer, Rose, last_count}
+use Rattle.cm_base.specs.Outside.{Files, file_at, with_file, NamesDiffer, Rose}
 
 -- a test is true or false
 two_ways : {P : Type 0} (b : Bool) → (b ≡ true → P) → (b ≡ false → P) → P

@@ -1,5 +1,5 @@
 -- What a store and a sink in memory hold, and what a call makes of them.
-use Rattle.std.specs.Prelude.{ℕ, ◌+◌, min, ◌==◌, ◌≡◌, ◌<◌, ◌≤◌, Bool, List, [], ◌++◌, take, length, slice_index_or, None, if◌then◌else◌}
+use Rattle.std.specs.Prelude.{ℕ, ◌+◌, min, ◌==◌, ◌≡◌, ◌<◌, Bool, List, [], ◌++◌, take, length, slice_index_or, None, if◌then◌else◌}
 use Rattle.std.specs.List.{list_any}
 use Rattle.cm_base.specs.Outside.{Files, file_at, with_file, last_count}
 

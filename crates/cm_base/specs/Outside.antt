@@ -1,5 +1,5 @@
 -- The outside as the program sees it: files by their names, bytes taken, and counts of faults.
-use Rattle.std.specs.Prelude.{◌≡◌, ◌≢◌, ℕ, ◌+◌, ◌<◌, ◌≤◌, min, ◌⊎◌, List, [], ◌∷◌, ◌++◌, take, Option, Some, None, IsSome, option_map, option_and_then, bytes_eq, if◌then◌else◌, Result, IsErrOf}
+use Rattle.std.specs.Prelude.{◌≡◌, ◌≢◌, ℕ, ◌<◌, ◌⊎◌, List, [], ◌∷◌, ◌++◌, take, Option, Some, None, IsSome, option_map, option_and_then, bytes_eq, if◌then◌else◌}
 
 -- files as pairs of name and bytes
 abbrev pub Files : Type 0

@@ -23,3 +23,6 @@ pub use outside::{Sink, Store, StoreFault};
 pub use place::{Place, Refusal};
 pub use regions::{PLATFORM, Regions, Row};
 pub use stop::Stop;
+
+#[cfg(test)]
+mod tests;

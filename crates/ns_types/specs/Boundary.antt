@@ -1,5 +1,5 @@
 -- The boundary between Non-secure and Secure code: where a branch goes, what a turn's items do, and what a view shows.
-use Rattle.std.specs.Prelude.{ℕ, ◌-◌, ◌%◌, Bool, cond, ◌||◌, eqb, List, [], ◌∷◌, ◌++◌, slice_set, take, Option, Some, None}
+use Rattle.std.specs.Prelude.{ℕ, ◌-◌, ◌%◌, Bool, cond, ◌||◌, eqb, List, [], ◌∷◌, ◌++◌, slice_index, slice_set, take, Option, Some, None}
 use Rattle.cm_base.specs.declared.stop.Stop.{Stop}
 use Rattle.cm_base.specs.declared.stop.Stop.TheVariants.{Access, Astray}
 use Rattle.ns_types.specs.declared.goes.Goes.{Goes}
@@ -7,6 +7,9 @@ use Rattle.ns_types.specs.declared.goes.Goes.TheVariants as goes
 use Rattle.ns_types.specs.declared.turn.Item.{Item}
 use Rattle.ns_types.specs.declared.turn.Item.TheVariants.{Write, Read}
 use Rattle.ns_types.specs.declared.turn.View.{View}
+use Rattle.ns_types.specs.declared.turn.Turn.{Turn}
+use Rattle.ns_types.specs.declared.turn.Start.{Start}
+use Rattle.ns_types.specs.Memory.{word_at}
 use Rattle.ns_types.specs.declared.event.CEvent.{CEvent}
 use Rattle.ns_types.specs.declared.event.CEvent.TheVariants as c
 use Rattle.ns_types.specs.Platform.{row, in_row, is_secure, is_nonsecure, aligned}
@@ -76,3 +79,20 @@ view_of (c.Result entry r0) mark = Some (view (in_four (r0 ∷ [])) mark.kept 0 
 view_of (c.Called target args) mark = Some (view (in_four args) eight_zeros target 4278190079 target mark)
 view_of (c.Wrote at size value) mark = None
 view_of (c.Stopped stop) mark = None
+
+-- the caller's r4 to r11
+abbrev pub kept_of : Turn → List ℕ
+kept_of t =
+    slice_index t.r 4 ∷ slice_index t.r 5 ∷ slice_index t.r 6 ∷ slice_index t.r 7 ∷ slice_index t.r 8 ∷ slice_index t.r 9 ∷ slice_index t.r 10 ∷ slice_index t.r 11 ∷ []
+
+-- beside the result of an entry that a turn calls
+abbrev pub turn_mark : Turn → Mark
+turn_mark t = record { exit = aligned 2 t.lr; kept = kept_of t; msp_ns = aligned 4 t.msp_ns; psp_ns = aligned 4 t.psp_ns }
+
+-- where Non-secure code begins: the second word of Non-secure ROM
+abbrev pub reset_address : Start → ℕ
+reset_address start = aligned 2 (word_at start.ns_rom 4)
+
+-- beside the event that the start code has run
+abbrev pub start_mark : Start → Mark
+start_mark start = record { exit = reset_address start; kept = eight_zeros; msp_ns = aligned 4 (word_at start.ns_rom 0); psp_ns = 0 }

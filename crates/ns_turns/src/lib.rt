@@ -1,0 +1,6 @@
+//! Turns of Non-secure code, and whole runs of the machine.
+#![tactic(auto)]
+
+mod running;
+
+pub use running::{play_turn, run};
