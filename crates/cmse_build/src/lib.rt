@@ -3,6 +3,8 @@
 
 mod constant;
 mod image;
+mod load;
 
 pub use constant::{one_constant, read_constant};
 pub use image::{Gate, write_image};
+pub use load::{Image, ImageFault, load_image};
