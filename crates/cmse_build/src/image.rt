@@ -5,8 +5,8 @@ ghost use Rattle.cmse_build.specs.Image.{names_of, symbol_table, segment_of, ima
 
 use cm_base::{Bytes, NoMemory, Text};
 use import_lib::{
-    Header, SECTION_NAMES, Symbol, Tables, padding, put_header, put_sections, put_symbol, put_words,
-    put_zeros,
+    Header, SECTION_NAMES, Symbol, Tables, padding, put_header, put_sections, put_symbol,
+    put_words, put_zeros,
 };
 use std::alloc::Global;
 
@@ -23,6 +23,7 @@ const TWIN: &[u8] = b"__acle_se_";
 
 /// The addresses of the Secure ROM and of its Non-secure callable part.
 const ROM_ADDRESS: u32 = 0x1000_0000;
+
 const GATEWAYS_ADDRESS: u32 = 0x103f_f000;
 
 /// Appends a name of two parts and a zero byte.

@@ -48,13 +48,17 @@ struct Segment {
 
 /// The size of the Secure ROM and its Non-secure callable part.
 const ROM_SIZE: usize = 0x40_0000;
+
 const ROM_FROM: u32 = 0x1000_0000;
+
 const ROM_TO: u32 = 0x1040_0000;
 
 const MAGIC: u32 = 0x464c_457f;
 
 /// Where the fields of the file header begin.
-const HEADER_FIELDS: [u32; 18] = [0, 4, 5, 6, 7, 16, 18, 20, 24, 28, 32, 36, 40, 42, 44, 46, 48, 50];
+const HEADER_FIELDS: [u32; 18] = [
+    0, 4, 5, 6, 7, 16, 18, 20, 24, 28, 32, 36, 40, 42, 44, 46, 48, 50,
+];
 
 /// The last of these starts that isn't above n, or 0.
 fn last_start(starts: &[u32], n: u64) -> u32
