@@ -59,7 +59,7 @@ fn refused(alloc: Global, file: &str) -> Status {
     }
 }
 
-fn built(alloc: Global, name: &[u8], n: u32) -> Result<Built, NoMemory>
+fn build_files(alloc: Global, name: &[u8], n: u32) -> Result<Built, NoMemory>
     requires { is_entry_name name.now ≡ true }
 {
     let library = library_of(alloc, name)?;
@@ -77,7 +77,7 @@ fn build<S: Store>(alloc: Global, store: &mut S, image: &str, library: &str, sou
     let Some((name, n)) = read_constant(text.as_slice()) else {
         return refused(alloc, source);
     };
-    match built(alloc, name, n) {
+    match build_files(alloc, name, n) {
         Ok(b) => deliver(alloc, store, library, b.library.as_slice(), image, b.image.as_slice()),
         Err(_) => Status::NoMemory,
     }
