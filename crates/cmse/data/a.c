@@ -1,1 +1,0 @@
-int __attribute__((cmse_nonsecure_entry)) answer(void) { return 42; }
