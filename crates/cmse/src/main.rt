@@ -3,7 +3,6 @@
 
 mod build;
 mod files;
-mod rom;
 mod status;
 mod words;
 
