@@ -87,7 +87,7 @@ zeros n = replicate n 0
 length-replicate : (n : ℕ) → length (zeros n) ≡ n
 length-replicate n = grind (arith, common_steps)
 
-used_size : (n : ℕ) → length (used_bytes n) ≡ 234
+pub used_size : (n : ℕ) → length (used_bytes n) ≡ 234
 used_size n =
     length-append (vectors ++ code_bytes start_code ++ 0 ∷ 0 ∷ [] ++ code_bytes (entry_code n)) (code_bytes (Udf 0 ∷ []))
     ∙ ap (λ k. k + length (code_bytes (Udf 0 ∷ []))) (length-append (vectors ++ code_bytes start_code ++ 0 ∷ 0 ∷ []) (code_bytes (entry_code n)) ∙ ap (λ k. k + length (code_bytes (entry_code n))) front_size)
@@ -262,3 +262,6 @@ gives_constant n h = record {
   entry = entry_stands n h;
   alone = gateway_alone n;
 }
+
+pub region_size : length gateway_bytes ≡ 4096
+region_size = length-append (code_bytes gateway_code) (zeros 4088) ∙ ap (λ k. k + length (zeros 4088)) gateway_size ∙ ap (λ k. 8 + k) (length-replicate 4088)
