@@ -99,9 +99,9 @@ phase enters enter turns zero w = take_turn (Over end.Waiting w) (λ t rest. Ove
 phase enters enter turns (suc fuel) w =
     take_turn (Over end.Waiting w)
     (λ t rest.
-      let after = acted t.items w.memory.ns_ram in
-      let u = turned t rest after.ram w in
-      stop_or after.stop u (chain enters enter (phase enters enter turns fuel) (aligned 2 t.lr) (kept_of t) turns (goes_of enters t.target) (take 4 t.r) u))
+    let after = acted t.items w.memory.ns_ram in
+    let u = turned t rest after.ram w in
+    stop_or after.stop u (chain enters enter (phase enters enter turns fuel) (aligned 2 t.lr) (kept_of t) turns (goes_of enters t.target) (take 4 t.r) u))
     w.turns
 
 -- a return with no call pending
