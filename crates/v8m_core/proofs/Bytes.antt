@@ -69,9 +69,9 @@ has_code (i ∷ is) rom pre post e fit all =
         place = (let a : 268435456 + length pre < 272629760 = omega arith in grind (arith, nat_tests));
         first = ap (half_at rom) back ∙ first_stands i rom pre (code_bytes is ++ post) e';
         second = ⊎_elim
-        (λ s. inl s)
-        (λ s. ⊎_elim {C = (size_of i ≡ 2) ⊎ ((is_in_rom (268435456 + length pre + 2) ≡ true) × (fetched rom (268435456 + length pre + 2) ≡ (code_of i).second))} (λ t. inl t) (λ h. inr ((let a : 268435456 + length pre + 2 < 272629760 = omega arith in grind (arith, nat_tests)), ap (half_at rom) back2 ∙ h)) (second_stands i rom pre (code_bytes is ++ post) e'))
-        (size_of_two_or_four i);
+            (λ s. inl s)
+            (λ s. ⊎_elim {C = (size_of i ≡ 2) ⊎ ((is_in_rom (268435456 + length pre + 2) ≡ true) × (fetched rom (268435456 + length pre + 2) ≡ (code_of i).second))} (λ t. inl t) (λ h. inr ((let a : 268435456 + length pre + 2 < 272629760 = omega arith in grind (arith, nat_tests)), ap (half_at rom) back2 ∙ h)) (second_stands i rom pre (code_bytes is ++ post) e'))
+            (size_of_two_or_four i);
       },
       subst (λ p. HasCode rom p is) m (has_code is rom (pre ++ instr_bytes i) post e'' fit all.1),
     )

@@ -35,23 +35,23 @@ does rom s i h =
     let pc = s.cpu.pc in
     let wide : Done = cond (is_in_rom (pc + 2)) (act_or rom (decode_of (fetched rom pc) (fetched rom (pc + 2))) s) (stopped stop.BadState s) in
     let here : step_of rom s ≡ cond (is_narrow (code_of i).first) (act_or rom (decode_of (code_of i).first 0) s) (cond (is_in_rom (pc + 2)) (act_or rom (decode_of (code_of i).first (fetched rom (pc + 2))) s) (stopped stop.BadState s)) =
-      ap (λ t. cond t (cond (is_narrow (fetched rom pc)) (act_or rom (decode_of (fetched rom pc) 0) s) (cond (is_in_rom (pc + 2)) (act_or rom (decode_of (fetched rom pc) (fetched rom (pc + 2))) s) (stopped stop.BadState s))) (stopped stop.BadState s)) h.place
-      ∙ ap (λ a. cond (is_narrow a) (act_or rom (decode_of a 0) s) (cond (is_in_rom (pc + 2)) (act_or rom (decode_of a (fetched rom (pc + 2))) s) (stopped stop.BadState s))) h.first in
+    ap (λ t. cond t (cond (is_narrow (fetched rom pc)) (act_or rom (decode_of (fetched rom pc) 0) s) (cond (is_in_rom (pc + 2)) (act_or rom (decode_of (fetched rom pc) (fetched rom (pc + 2))) s) (stopped stop.BadState s))) (stopped stop.BadState s)) h.place
+    ∙ ap (λ a. cond (is_narrow a) (act_or rom (decode_of a 0) s) (cond (is_in_rom (pc + 2)) (act_or rom (decode_of a (fetched rom (pc + 2))) s) (stopped stop.BadState s))) h.first in
     ⊎_elim
     (λ two.
-      let d = decode-narrow i h.range two in
-      here
-      ∙ ap (λ t. cond t (act_or rom (decode_of (code_of i).first 0) s) (cond (is_in_rom (pc + 2)) (act_or rom (decode_of (code_of i).first (fetched rom (pc + 2))) s) (stopped stop.BadState s))) d.0
-      ∙ ap (λ o. act_or rom o s) d.1 ∙ ap (λ n. act rom i n s) (sym two))
+    let d = decode-narrow i h.range two in
+    here
+    ∙ ap (λ t. cond t (act_or rom (decode_of (code_of i).first 0) s) (cond (is_in_rom (pc + 2)) (act_or rom (decode_of (code_of i).first (fetched rom (pc + 2))) s) (stopped stop.BadState s))) d.0
+    ∙ ap (λ o. act_or rom o s) d.1 ∙ ap (λ n. act rom i n s) (sym two))
     (λ four.
-      let ne : size_of i ≢ 2 = λ e. omega arith in
-      let d = decode-wide i h.range ne in
-      let second = ⊎_elim {C = (is_in_rom (pc + 2) ≡ true) × (fetched rom (pc + 2) ≡ (code_of i).second)} (λ two. absurd (ne two)) (λ x. x) h.second in
-      here
-      ∙ ap (λ t. cond t (act_or rom (decode_of (code_of i).first 0) s) (cond (is_in_rom (pc + 2)) (act_or rom (decode_of (code_of i).first (fetched rom (pc + 2))) s) (stopped stop.BadState s))) d.0
-      ∙ ap (λ t. cond t (act_or rom (decode_of (code_of i).first (fetched rom (pc + 2))) s) (stopped stop.BadState s)) second.0
-      ∙ ap (λ b. act_or rom (decode_of (code_of i).first b) s) second.1
-      ∙ ap (λ o. act_or rom o s) d.1)
+    let ne : size_of i ≢ 2 = λ e. omega arith in
+    let d = decode-wide i h.range ne in
+    let second = ⊎_elim {C = (is_in_rom (pc + 2) ≡ true) × (fetched rom (pc + 2) ≡ (code_of i).second)} (λ two. absurd (ne two)) (λ x. x) h.second in
+    here
+    ∙ ap (λ t. cond t (act_or rom (decode_of (code_of i).first 0) s) (cond (is_in_rom (pc + 2)) (act_or rom (decode_of (code_of i).first (fetched rom (pc + 2))) s) (stopped stop.BadState s))) d.0
+    ∙ ap (λ t. cond t (act_or rom (decode_of (code_of i).first (fetched rom (pc + 2))) s) (stopped stop.BadState s)) second.0
+    ∙ ap (λ b. act_or rom (decode_of (code_of i).first b) s) second.1
+    ∙ ap (λ o. act_or rom o s) d.1)
     (size_of_two_or_four i)
 
 pub comes_on : (rom : List ℕ) (m n : ℕ) (s t u : State) → Comes rom m s t → Comes rom n t u → Comes rom (m + n) s u
