@@ -1,0 +1,5 @@
+pub mod Classes
+pub mod Spot
+pub mod Spelling
+pub mod Tokens
+pub mod Reading

@@ -1,4 +1,15 @@
 //! The tokens of a C source.
 #![tactic(auto)]
 
+mod class;
+mod comments;
+mod fault;
+pub mod lexer;
+mod literals;
+mod marks;
+mod numbers;
+mod pieces;
+mod runs;
+mod spot;
 pub mod token;
+mod words;
