@@ -4,3 +4,15 @@ pub mod Values
 pub mod Strings
 pub mod Digits
 pub mod Closing
+pub mod Right
+pub mod NameLaws
+pub mod NumberLaws
+pub mod LiteralLaws
+pub mod CharLaws
+pub mod ClosingLaws
+pub mod IncludeLaws
+pub mod MarkLaws
+pub mod PieceLaws
+pub mod ReadLaws
+pub mod SplitLaws
+pub mod StepLaws

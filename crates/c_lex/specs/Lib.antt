@@ -3,3 +3,4 @@ pub mod Spot
 pub mod Spelling
 pub mod Tokens
 pub mod Reading
+pub mod Answer

@@ -1,6 +1,6 @@
 -- Reading one piece from the front of a text, from left to right. The laws of this crate say that what is read are the pieces
 -- of the definition, and no others.
-use Rattle.std.specs.Prelude.{◌≡◌, ℕ, zero, suc, ◌+◌, ◌*◌, ◌^◌, Bool, true, false, not, ◌&&◌, ◌||◌, nat_le, nat_lt, ◌==◌, List, [], ◌∷◌, ◌++◌, length, take, drop, codes, Option, Some, None, Result, Ok, Err, if◌then◌else◌}
+use Rattle.std.specs.Prelude.{◌≡◌, ◌≢◌, ◌≤◌, ℕ, zero, suc, ◌+◌, ◌*◌, ◌^◌, Bool, true, false, not, ◌&&◌, ◌||◌, nat_le, nat_lt, ◌==◌, List, [], ◌∷◌, ◌++◌, length, take, drop, codes, Option, Some, None, Result, Ok, Err, if◌then◌else◌}
 use Rattle.std.specs.Borrow.{Bor}
 use Rattle.c_lex.specs.declared.fault.Fault.{Fault}
 use Rattle.c_lex.specs.declared.fault.PieceError.{PieceError}
@@ -16,7 +16,10 @@ use Rattle.c_lex.specs.declared.token.Punct.{Punct}
 use Rattle.c_lex.specs.declared.token.Punct.TheVariants as mark
 use Rattle.c_lex.specs.Classes.{is_letter, is_digit, is_octal, is_hex, is_name_byte, is_blank, is_space, is_in_line, is_u, is_l, is_plain, digit_value, begins, begins_with}
 use Rattle.c_lex.specs.Spelling.{same_text, word_of, is_left_out, begins_hex, value_of, begins_long_long, goes_on, simple_escape}
-use Rattle.c_lex.specs.Tokens.{E01, E02, E03, E04, E06, ends_line, number_kind}
+use Rattle.c_lex.specs.declared.spot.Spot.{Spot}
+use Rattle.c_lex.specs.declared.token.Token.{Token}
+use Rattle.c_lex.specs.Spot.{start, after}
+use Rattle.c_lex.specs.Tokens.{E01, E02, E03, E04, E06, ends_line, number_kind, Piece, Faulty, Splits, ends_at, tokens_of}
 
 infixl 10 ◌>>=◌
 abbrev pub ◌>>=◌ : {A B E : Type 0} → Result A E → (A → Result B E) → Result B E
@@ -291,3 +294,36 @@ piece_at fresh (b ∷ r) =
     if is_space b then Ok (None, r) else
     (if begins_token b then as_token (token_at fresh (b ∷ r) b r) else
     (if b == 47 then slash_at (b ∷ r) r else other_at (b ∷ r)))
+
+-- ---- one step, and how the split goes on
+
+abbrev pub IfAt : (Fault → Type 0) → PieceError → Type 0
+IfAt P errors.NoMemory = Unit {0}
+IfAt P (errors.At f) = P f
+
+-- From p, a piece of these bytes stands at the front of the text, and the rest stands at q.
+pub record Step (p : Spot) (text : List ℕ) (k : Option Kind) (q : Spot) (rest : List ℕ) : Type 0 where
+  pub bytes : List ℕ
+  pub parts : text ≡ bytes ++ rest
+  pub some : bytes ≢ []
+  pub piece : Piece p.fresh text k rest
+  pub at : q ≡ after p bytes
+
+-- no piece stands at the front of the text
+pub record Stuck (p : Spot) (text : List ℕ) (f : Fault) : Type 0 where
+  pub fault : Faulty p.fresh text f.code f.left
+  pub within : f.left ≤ length text
+
+-- The text is pieces up to a fault.
+pub record EndsAt (text : List ℕ) (f : Fault) : Type 0 where
+  pub pieces : List (Option Kind × List ℕ)
+  pub rest : List ℕ
+  pub split : Splits start text pieces rest
+  pub fault : Faulty (ends_at start pieces).fresh rest f.code f.left
+  pub within : f.left ≤ length text
+
+-- The text is pieces with these tokens.
+pub record AreTokens (unit : ℕ) (text : List ℕ) (tokens : List Token) : Type 0 where
+  pub pieces : List (Option Kind × List ℕ)
+  pub split : Splits start text pieces []
+  pub are : tokens_of unit start pieces ≡ tokens

@@ -75,6 +75,11 @@ abbrev pub Splits : Spot → List ℕ → List (Option Kind × List ℕ) → Lis
 Splits p text [] rest = text ≡ rest
 Splits p text (x ∷ xs) rest = (t : List ℕ) × (text ≡ x.1 ++ t) × (x.1 ≢ []) × Piece p.fresh text x.0 t × Splits (after p x.1) t xs rest
 
+-- where what is behind the pieces stands
+abbrev pub ends_at : Spot → List (Option Kind × List ℕ) → Spot
+ends_at p [] = p
+ends_at p (x ∷ xs) = ends_at (after p x.1) xs
+
 -- the token that a piece is, if it is one
 abbrev pub token_at : ℕ → Spot → Option Kind → List Token
 token_at unit p None = []
@@ -138,7 +143,7 @@ pub record HasFault (unit : ℕ) (text : List ℕ) (code : ℕ) (place : Place) 
   pub rest : List ℕ
   pub left : ℕ
   pub split : Splits start text pieces rest
-  pub fault : Faulty (after start (take (length text - length rest) text)).fresh rest code left
+  pub fault : Faulty (ends_at start pieces).fresh rest code left
   pub at : place_of unit (after start (take (length text - left) text)) ≡ place
 
 pub data FirstFault (unit : ℕ) (text : List ℕ) : ℕ → Place → Type 0 where

@@ -4,6 +4,7 @@
 mod class;
 mod comments;
 mod fault;
+pub mod laws;
 pub mod lexer;
 mod literals;
 mod marks;
@@ -13,3 +14,5 @@ mod runs;
 mod spot;
 pub mod token;
 mod words;
+
+pub use lexer::{LexFault, MAX_SOURCE, lex};
