@@ -19,8 +19,8 @@ module _ (fresh : Bool) (text body : List ℕ) where
   close_right : text ≡ 39 ∷ body → (v : ℕ) (r : List ℕ) → Item 39 body v r → Right (Spelled fresh text) (Faulty fresh text) (close_char (length text) v r)
   close_right e v [] i = faults (record { code = 1; left = length text }) (char_open e i)
   close_right e v (b ∷ r) i = either (eqb b 39) (Ok (kind.Char v, r)) (Err (fault 1 (b ∷ r)))
-    (λ h. done (char e (subst (λ (x : ℕ). Item 39 body v (x ∷ r)) (eqb-true b 39 h) i)))
-    (λ h. faults (fault 1 (b ∷ r)) (char_second b r e i h))
+      (λ h. done (char e (subst (λ (x : ℕ). Item 39 body v (x ∷ r)) (eqb-true b 39 h) i)))
+      (λ h. faults (fault 1 (b ∷ r)) (char_second b r e i h))
 
   pub char_right : text ≡ 39 ∷ body → Right (Spelled fresh text) (Faulty fresh text) (char_at (length text) body)
   unfolding char_at

@@ -24,6 +24,7 @@ close_some (a ∷ r) rest e = go (λ q k. close_some r q k) (closes_here (a ∷ 
     later : (f : (x : List ℕ) × Closes x rest r) → closes_here (a ∷ r) ≡ false → (y s : List ℕ) → a ∷ r ≡ y ++ (42 ∷ 47 ∷ s) → suc (length f.0) ≤ length y
     later f h [] s k = absurd (let t : closes_here (a ∷ r) ≡ true = ap closes_here k in cc)
     later f h (c ∷ y) s k = let t : r ≡ y ++ (42 ∷ 47 ∷ s) = cc in let u = f.1.first y s t in omega arith
+
     go : ((q : List ℕ) → close_at r ≡ Some q → (x : List ℕ) × Closes x q r) → (c : Bool) → closes_here (a ∷ r) ≡ c → cond c (Some (drop 1 r)) (close_at r) ≡ Some rest → (x : List ℕ) × Closes x rest (a ∷ r)
     go ih true h k = ([], record { parts = here a r h ∙ ap (λ (t : List ℕ). 42 ∷ 47 ∷ t) (same_some (drop 1 r) rest k); first = λ x s q. omega arith })
     go ih false h k = let f = ih rest k in (a ∷ f.0, record { parts = ap (λ (t : List ℕ). a ∷ t) f.1.parts; first = later f h })
@@ -52,11 +53,11 @@ close_again x rest text c = go (close_at text) refl
     go : (o : Option (List ℕ)) → close_at text ≡ o → o ≡ Some rest
     go None e = absurd (close_none text e x rest c.parts)
     go (Some r) e =
-      let f = close_some text r e in
-      let a = c.first f.0 r f.1.parts in
-      let b = f.1.first x rest c.parts in
-      let n : length f.0 ≡ length x = omega arith in
-      ap (λ (t : List ℕ). Some t) (tails f.0 x r rest n (sym f.1.parts ∙ c.parts))
+        let f = close_some text r e in
+        let a = c.first f.0 r f.1.parts in
+        let b = f.1.first x rest c.parts in
+        let n : length f.0 ≡ length x = omega arith in
+        ap (λ (t : List ℕ). Some t) (tails f.0 x r rest n (sym f.1.parts ∙ c.parts))
 
 pub close_open : (text : List ℕ) → ((x r : List ℕ) → text ≡ x ++ (42 ∷ 47 ∷ r) → ⊥) → close_at text ≡ None
 close_open text h = go (close_at text) refl

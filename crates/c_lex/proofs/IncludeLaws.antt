@@ -63,18 +63,30 @@ include_some body h rest e = first (strip (back is_blank body) (codes "include")
   where
     third : (r : List ℕ) → back is_blank body ≡ codes "include" ++ r → back is_blank r ≡ header_text h ++ rest → ends_line (back is_blank rest) ≡ true → Include (35 ∷ body) h rest
     third r p q k =
-      let a = run_is is_blank body in let b = run_is is_blank r in let c = run_is is_blank rest in
-      record { before = front is_blank body; between = front is_blank r; behind = front is_blank rest; end = back is_blank rest;
-        parts = ap (λ (t : List ℕ). 35 ∷ t) (a.parts ∙ ap (λ (t : List ℕ). front is_blank body ++ t) (p ∙ ap (λ (t : List ℕ). codes "include" ++ t) (b.parts ∙ ap (λ (t : List ℕ). front is_blank r ++ t) q)));
-        before_blank = a.each; between_blank = b.each; rest_parts = c.parts; behind_blank = c.each; line_ends = k }
+        let a = run_is is_blank body in let b = run_is is_blank r in let c = run_is is_blank rest in
+        record {
+          before = front is_blank body;
+          between = front is_blank r;
+          behind = front is_blank rest;
+          end = back is_blank rest;
+          parts = ap (λ (t : List ℕ). 35 ∷ t) (a.parts ∙ ap (λ (t : List ℕ). front is_blank body ++ t) (p ∙ ap (λ (t : List ℕ). codes "include" ++ t) (b.parts ∙ ap (λ (t : List ℕ). front is_blank r ++ t) q)));
+          before_blank = a.each;
+          between_blank = b.each;
+          rest_parts = c.parts;
+          behind_blank = c.each;
+          line_ends = k;
+        }
+
     tested : (r : List ℕ) → back is_blank body ≡ codes "include" ++ r → (x : Header × List ℕ) → header_at (back is_blank r) ≡ Some x → (c : Bool) → ends_line (back is_blank x.1) ≡ c → cond c (Some x) None ≡ Some (h, rest) → Include (35 ∷ body) h rest
     tested r p x q true k m =
-      let s = same_some x (h, rest) m in
-      third r p (header_some (back is_blank r) h rest (q ∙ ap (λ (y : Header × List ℕ). Some y) s)) (ap (λ (y : Header × List ℕ). ends_line (back is_blank y.1)) (sym s) ∙ k)
+        let s = same_some x (h, rest) m in
+        third r p (header_some (back is_blank r) h rest (q ∙ ap (λ (y : Header × List ℕ). Some y) s)) (ap (λ (y : Header × List ℕ). ends_line (back is_blank y.1)) (sym s) ∙ k)
     tested r p x q false k m = absurd cc
+
     second : (r : List ℕ) → back is_blank body ≡ codes "include" ++ r → (o : Option (Header × List ℕ)) → header_at (back is_blank r) ≡ o → if_line_ends o ≡ Some (h, rest) → Include (35 ∷ body) h rest
     second r p None q k = absurd cc
     second r p (Some x) q k = tested r p x q (ends_line (back is_blank x.1)) refl k
+
     first : (o : Option (List ℕ)) → strip (back is_blank body) (codes "include") ≡ o → named_header o ≡ Some (h, rest) → Include (35 ∷ body) h rest
     first None p k = absurd cc
     first (Some r) p k = second r (strip_some _ _ r p) (header_at (back is_blank r)) refl k
@@ -125,6 +137,7 @@ hash_right fresh text body e = go fresh refl
     found : fresh ≡ true → (o : Option (Header × List ℕ)) → include_at body ≡ o → Right (Spelled fresh text) (Faulty fresh text) (included text o)
     found f None q = faults (fault 4 text) (hash e (λ h r g i. absurd (let k = include_again body h r (same_include text body h r e i) in cc)))
     found f (Some x) q = done (include f (subst (λ (t : List ℕ). Include t x.0 x.1) (sym e) (include_some body x.0 x.1 q)))
+
     go : (b : Bool) → fresh ≡ b → Right (Spelled fresh text) (Faulty fresh text) (cond b (included text (include_at body)) (Err (fault 4 text)))
     go true f = found f (include_at body) refl
     go false f = faults (fault 4 text) (hash e (λ h r g i. absurd cc))

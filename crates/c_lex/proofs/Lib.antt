@@ -16,3 +16,4 @@ pub mod PieceLaws
 pub mod ReadLaws
 pub mod SplitLaws
 pub mod StepLaws
+pub mod AnswerLaws

@@ -236,10 +236,10 @@ unfolding string_at
 string_answers cut zero text lt = absurd (omega arith)
 string_answers cut (suc n) text lt =
     either (begins_with 34 text) (Ok ([], drop 1 text)) (literal_item cut 34 text >>= λ x. string_at cut n x.1 >>= λ y. Ok (x.0 ∷ y.0, y.1))
-      (λ h. done (at_quote text h))
-      (λ h. and_so _ (item_answers cut 34 text) (λ code left i. record { before = []; at = text; items = refl; closes = h; is = i })
-        (λ v r i. and_so _ (string_answers cut n r (let k = shrinks i in omega arith)) (λ code left f. record { before = v ∷ f.before; at = f.at; items = (r, i, f.items); closes = f.closes; is = f.is })
-          (λ vs rest is. done (r, i, is))))
+    (λ h. done (at_quote text h))
+    (λ h. and_so _ (item_answers cut 34 text) (λ code left i. record { before = []; at = text; items = refl; closes = h; is = i })
+    (λ v r i. and_so _ (string_answers cut n r (let k = shrinks i in omega arith)) (λ code left f. record { before = v ∷ f.before; at = f.at; items = (r, i, f.items); closes = f.closes; is = f.is })
+    (λ vs rest is. done (r, i, is))))
 
 string_step : (cut n : ℕ) (text : List ℕ) (v : ℕ) (t : List ℕ) → Item 34 text v t → string_at cut (suc n) text ≡ (string_at cut n t >>= λ y. Ok (v ∷ y.0, y.1))
 unfolding string_at

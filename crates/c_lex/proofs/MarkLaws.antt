@@ -218,12 +218,16 @@ same_length_marks text m n r s a b = go (length_in m r text a.parts) (length_in 
   where
     le : length (mark_text m) ≤ length (mark_text n)
     le = b.longest m r a.parts
+
     ge : length (mark_text n) ≤ length (mark_text m)
     ge = a.longest n s b.parts
+
     rests : m ≡ n → r ≡ s
     rests e = append_cancel_left (mark_text m) r s (sym a.parts ∙ b.parts ∙ ap (λ (x : Punct). mark_text x ++ s) (sym e))
+
     both : m ≡ n → (m ≡ n) × (r ≡ s)
     both e = (e, rests e)
+
     go : Length m text → Length n text → (m ≡ n) × (r ≡ s)
     go (has1 l h) (has1 k i) = both cc
     go (has2 l h) (has2 k i) = both cc

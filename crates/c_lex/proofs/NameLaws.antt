@@ -16,7 +16,7 @@ module _ (fresh : Bool) (text : List ℕ) (h : begins is_letter text ≡ true) w
   named_right : (s rest : List ℕ) → Run is_name_byte s rest text → (o : Option Keyword) → word_of s ≡ o → Right (Spelled fresh text) (Faulty fresh text) (named text s rest o)
   named_right s rest r (Some w) e = done (word h r e)
   named_right s rest r None e = either (is_left_out s) _ _ (λ q. faults (fault E06 text) (left_out h r e q))
-    (λ q. either (ltb 255 (length s)) _ _ (λ l. faults (fault E01 text) (long_name h r e q (ltb_yes 255 (length s) l))) (λ l. done (name h r e q (ltb_no 255 (length s) l))))
+      (λ q. either (ltb 255 (length s)) _ _ (λ l. faults (fault E01 text) (long_name h r e q (ltb_yes 255 (length s) l))) (λ l. done (name h r e q (ltb_no 255 (length s) l))))
 
   pub name_right : Right (Spelled fresh text) (Faulty fresh text) (name_at text)
   unfolding name_at

@@ -72,23 +72,38 @@ u_l : (a : ℕ) (r : List ℕ) → is_u a ≡ true → (o : Option (List ℕ)) �
 u_l a r h (Some rest) e =
     let s = some_then is_l r rest e in
     record { suffix = a ∷ s.0 ∷ []; parts = ap (λ (t : List ℕ). a ∷ t) s.1; is = rw (h, s.2) refl; ends = λ b t q. refl }
-u_l a r h None e = record { suffix = a ∷ []; parts = refl; is = rw h refl; ends = λ b t q.
-    let n : is_l b ≡ false = none_then is_l b t (ap (behind is_l) (sym q) ∙ e) in rw (h, n, u_no_l a h) refl }
+u_l a r h None e = record {
+  suffix = a ∷ [];
+  parts = refl;
+  is = rw h refl;
+  ends = λ b t q.
+      let n : is_l b ≡ false = none_then is_l b t (ap (behind is_l) (sym q) ∙ e) in rw (h, n, u_no_l a h) refl;
+}
 
 l_u : (a : ℕ) (r : List ℕ) → is_l a ≡ true → (o : Option (List ℕ)) → behind is_u r ≡ o → Suffix (a ∷ r) (u_behind r o).0 (u_behind r o).1
 l_u a r h (Some rest) e =
     let s = some_then is_u r rest e in
     record { suffix = a ∷ s.0 ∷ []; parts = ap (λ (t : List ℕ). a ∷ t) s.1; is = rw (h, s.2, l_no_u a h) refl; ends = λ b t q. refl }
-l_u a r h None e = record { suffix = a ∷ []; parts = refl; is = rw (l_no_u a h, h) refl; ends = λ b t q.
-    let n : is_u b ≡ false = none_then is_u b t (ap (behind is_u) (sym q) ∙ e) in rw (h, n, l_no_u a h) refl }
+l_u a r h None e = record {
+  suffix = a ∷ [];
+  parts = refl;
+  is = rw (l_no_u a h, h) refl;
+  ends = λ b t q.
+      let n : is_u b ≡ false = none_then is_u b t (ap (behind is_u) (sym q) ∙ e) in rw (h, n, l_no_u a h) refl;
+}
 
 by_l : (text : List ℕ) → behind is_u text ≡ None → (o : Option (List ℕ)) → behind is_l text ≡ o → Suffix text (begun_by_l text o).0 (begun_by_l text o).1
 by_l text k (Some r) e =
     let s = some_then is_l text r e in
     subst (λ (t : List ℕ). Suffix t (u_behind r (behind is_u r)).0 (u_behind r (behind is_u r)).1) (sym s.1) (l_u s.0 r s.2 (behind is_u r) refl)
-by_l text k None e = record { suffix = []; parts = refl; is = refl; ends = λ b t q.
-    let n : is_l b ≡ false = none_then is_l b t (ap (behind is_l) (sym q) ∙ e) in
-    let m : is_u b ≡ false = none_then is_u b t (ap (behind is_u) (sym q) ∙ k) in rw (m, n) refl }
+by_l text k None e = record {
+  suffix = [];
+  parts = refl;
+  is = refl;
+  ends = λ b t q.
+      let n : is_l b ≡ false = none_then is_l b t (ap (behind is_l) (sym q) ∙ e) in
+      let m : is_u b ≡ false = none_then is_u b t (ap (behind is_u) (sym q) ∙ k) in rw (m, n) refl;
+}
 
 by_u : (text : List ℕ) (o : Option (List ℕ)) → behind is_u text ≡ o → Suffix text (begun_by_u text o).0 (begun_by_u text o).1
 by_u text (Some r) e =
@@ -252,20 +267,21 @@ module _ (fresh : Bool) (text : List ℕ) (base : ℕ) (ds more : List ℕ) (d :
     where
       s : Suffix more (suffix_at more).0 (suffix_at more).1
       s = suffix_right more
+
       go : (a b : Bool) → begins_long_long more ≡ a → begins_with 46 more ≡ b → Right (Spelled fresh text) (Faulty fresh text)
           (cond (a || b) (Err (fault E06 text)) (cond (begins is_name_byte (suffix_at more).1) (Err (fault E01 (suffix_at more).1)) (Ok (number_kind (value_of base ds) (suffix_at more).0, (suffix_at more).1))))
       go true b p q = faults (fault E06 text) (long_long d lt p)
       go false true p q = faults (fault E06 text) (point d lt q)
       go false false p q = either (begins is_name_byte (suffix_at more).1) _ _ (λ h. tail_right (suffix_at more).0 (suffix_at more).1 s p q (suffix_at more).1 refl h)
-        (λ h. done (number s.suffix d lt p q s.parts s.is h))
+          (λ h. done (number s.suffix d lt p q s.parts s.is h))
 
 pub number_right : (fresh : Bool) (text : List ℕ) → begins is_digit text ≡ true → Right (Spelled fresh text) (Faulty fresh text) (number_at text)
 unfolding number_at
 number_right fresh text h =
     let d = digits_right text h in
     either (ltb (value_of (digits_at text).0 (digits_at text).1) (2 ^ 32)) _ _
-      (λ e. number_with_right fresh text (digits_at text).0 (digits_at text).1 (digits_at text).2 d (ltb_yes _ _ e))
-      (λ e. faults (fault E02 text) (large d (ltb_no _ _ e)))
+    (λ e. number_with_right fresh text (digits_at text).0 (digits_at text).1 (digits_at text).2 d (ltb_yes _ _ e))
+    (λ e. faults (fault E02 text) (large d (ltb_no _ _ e)))
 
 abbrev number_by : List ℕ → ℕ → List ℕ → Read Kind
 number_by text v more = cond (ltb v (2 ^ 32)) (number_with text v more) (Err (fault E02 text))

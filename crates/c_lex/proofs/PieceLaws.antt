@@ -8,8 +8,39 @@ use Rattle.c_lex.specs.declared.token.Kind.TheVariants as kind
 use Rattle.c_lex.specs.declared.token.Punct.{Punct}
 use Rattle.c_lex.specs.Classes.{is_space, is_blank, is_in_line, is_letter, is_digit, is_name_byte, is_stray, is_no_text, begins, begins_with, Run}
 use Rattle.c_lex.specs.Spelling.{mark_text, begins_hex, Digits, hex, octal, decimal, Items}
-use Rattle.c_lex.specs.Tokens.{Spelled, name, word, number, char, str, mark, include, Piece, space, line, block, token, Closes, begins_comment,
-  Faulty, stray, long_name, left_out, large, long_long, point, tail, char_bad, char_second, char_cut, char_open, str_bad, str_cut, hash, open_comment}
+use Rattle.c_lex.specs.Tokens.{
+  Spelled,
+  name,
+  word,
+  number,
+  char,
+  str,
+  mark,
+  include,
+  Piece,
+  space,
+  line,
+  block,
+  token,
+  Closes,
+  begins_comment,
+  Faulty,
+  stray,
+  long_name,
+  left_out,
+  large,
+  long_long,
+  point,
+  tail,
+  char_bad,
+  char_second,
+  char_cut,
+  char_open,
+  str_bad,
+  str_cut,
+  hash,
+  open_comment,
+}
 use Rattle.c_lex.specs.Reading.{◌>>=◌, Read, fault, back, as_token, name_at, number_at, char_at, string_at, hash_at, commented, close_at, one_mark, mark_at, marked, begins_token, token_at, other_at, slash_at, piece_at}
 use Rattle.c_lex.proofs.Right.{Right, done, faults, either, and_so}
 use Rattle.c_lex.proofs.RunLaws.{run_is, run_back}
@@ -100,6 +131,7 @@ slash_right fresh (b ∷ r) = go (eqb b 47) (eqb b 42) refl refl
     closed : eqb b 42 ≡ true → (o : Option (List ℕ)) → close_at r ≡ o → Right (Piece fresh (47 ∷ b ∷ r)) (Faulty fresh (47 ∷ b ∷ r)) (commented (47 ∷ b ∷ r) o)
     closed q (Some rest) e = let c = close_some r rest e in done (block (ap (λ (x : ℕ). 47 ∷ x ∷ r) (eqb-true b 42 q)) c.1)
     closed q None e = faults (fault 3 (47 ∷ b ∷ r)) (open_comment (ap (λ (x : ℕ). 47 ∷ x ∷ r) (eqb-true b 42 q)) (close_none r e))
+
     go : (x y : Bool) → eqb b 47 ≡ x → eqb b 42 ≡ y → Right (Piece fresh (47 ∷ b ∷ r)) (Faulty fresh (47 ∷ b ∷ r)) (cond x (Ok (None, back is_in_line r)) (cond y (commented (47 ∷ b ∷ r) (close_at r)) (other_at (47 ∷ b ∷ r))))
     go true y p q = done (line (ap (λ (x : ℕ). 47 ∷ x ∷ r) (eqb-true b 47 p)) (run_is is_in_line r))
     go false true p q = closed q (close_at r) refl
@@ -122,6 +154,7 @@ token_right fresh b r h = go (is_letter b) (is_digit b) (eqb b 39) (eqb b 34) re
   where
     more : suc (length r) ≡ length r + 1
     more = sym (add-one (length r))
+
     go : (x y z w : Bool) → is_letter b ≡ x → is_digit b ≡ y → eqb b 39 ≡ z → eqb b 34 ≡ w → Right (Spelled fresh (b ∷ r)) (Faulty fresh (b ∷ r))
         (cond x (name_at (b ∷ r)) (cond y (number_at (b ∷ r)) (cond z (char_at (length r + 1) r) (cond w (string_at (length r + 1) (length r + 1) r >>= λ x. Ok (kind.Str x.0, x.1)) (hash_at fresh (b ∷ r) r)))))
     go true y z w p q s t = name_right fresh (b ∷ r) p
@@ -141,6 +174,7 @@ piece_right fresh b r = go (is_space b) (begins_token b) (eqb b 47) refl refl re
   where
     no_comment : eqb b 47 ≡ false → begins_comment (b ∷ r) ≡ false
     no_comment h = not_slash b r h
+
     go : (x y z : Bool) → is_space b ≡ x → begins_token b ≡ y → eqb b 47 ≡ z → Right (Piece fresh (b ∷ r)) (Faulty fresh (b ∷ r))
         (cond x (Ok (None, r)) (cond y (as_token (token_at fresh (b ∷ r) b r)) (cond z (slash_at (b ∷ r) r) (other_at (b ∷ r)))))
     go true y z p q s = done (space refl p)

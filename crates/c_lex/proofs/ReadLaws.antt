@@ -9,8 +9,40 @@ use Rattle.c_lex.specs.declared.token.Kind.TheVariants as kind
 use Rattle.c_lex.specs.declared.token.Punct.{Punct}
 use Rattle.c_lex.specs.Classes.{is_hex, is_space, is_blank, is_in_line, is_letter, is_digit, is_name_byte, is_stray, is_no_text, begins, begins_with, Run}
 use Rattle.c_lex.specs.Spelling.{mark_text, begins_hex, Digits, hex, octal, decimal, Items}
-use Rattle.c_lex.specs.Tokens.{Include, Spelled, name, word, number, char, str, mark, include, Piece, space, line, block, token, Closes, begins_comment,
-  Faulty, stray, long_name, left_out, large, long_long, point, tail, char_bad, char_second, char_cut, char_open, str_bad, str_cut, hash, open_comment}
+use Rattle.c_lex.specs.Tokens.{
+  Include,
+  Spelled,
+  name,
+  word,
+  number,
+  char,
+  str,
+  mark,
+  include,
+  Piece,
+  space,
+  line,
+  block,
+  token,
+  Closes,
+  begins_comment,
+  Faulty,
+  stray,
+  long_name,
+  left_out,
+  large,
+  long_long,
+  point,
+  tail,
+  char_bad,
+  char_second,
+  char_cut,
+  char_open,
+  str_bad,
+  str_cut,
+  hash,
+  open_comment,
+}
 use Rattle.c_lex.specs.Reading.{◌>>=◌, Read, fault, back, as_token, name_at, number_at, char_at, string_at, hash_at, commented, close_at, one_mark, mark_at, marked, begins_token, token_at, other_at, slash_at, piece_at}
 use Rattle.c_lex.proofs.Right.{Right, done, faults, either, and_so}
 use Rattle.c_lex.proofs.RunLaws.{run_is, run_back}
@@ -21,7 +53,6 @@ use Rattle.c_lex.proofs.CharLaws.{char_right, string_right, read_char, read_char
 use Rattle.c_lex.proofs.ClosingLaws.{close_some, close_none, close_again, close_open}
 use Rattle.c_lex.proofs.IncludeLaws.{hash_right, read_include, read_hash}
 use Rattle.c_lex.proofs.MarkLaws.{Longest, MarkRead, a_mark, no_mark, mark_right, mark_again, MarkByte, begins_mark, no_empty_mark}
-
 
 letter_no_space : (b : ℕ) → is_letter b ≡ true → is_space b ≡ false
 unfolding is_letter is_space is_blank
@@ -129,7 +160,7 @@ at_other fresh b r s t c = go (eqb b 47) refl
     go : (x : Bool) → eqb b 47 ≡ x → piece_at fresh (b ∷ r) ≡ as_token (marked (b ∷ r) (mark_at (b ∷ r)))
     go false e = at_mark fresh b r s t e
     go true e = let q = eqb-true b 47 e in
-      subst (λ (z : ℕ). piece_at fresh (z ∷ r) ≡ as_token (marked (z ∷ r) (mark_at (z ∷ r)))) (sym q) (at_slash fresh r ∙ slash_mark r (subst (λ (z : ℕ). begins_comment (z ∷ r) ≡ false) q c))
+        subst (λ (z : ℕ). piece_at fresh (z ∷ r) ≡ as_token (marked (z ∷ r) (mark_at (z ∷ r)))) (sym q) (at_slash fresh r ∙ slash_mark r (subst (λ (z : ℕ). begins_comment (z ∷ r) ≡ false) q c))
 
 read_mark : (fresh : Bool) (text : List ℕ) (m : Punct) (rest : List ℕ) → Longest text m rest → begins_comment text ≡ false → piece_at fresh text ≡ Ok (Some (kind.Mark m), rest)
 read_mark fresh [] m rest l c = absurd (no_empty_mark m rest l.parts)
@@ -192,7 +223,7 @@ read_spelled {fresh = fresh} {text = text} (include {h = h} {rest = rest} f i) =
     let e : text ≡ 35 ∷ drop 1 text = behind_hash text i.parts in
     let k : Include (35 ∷ drop 1 text) h rest = subst (λ (t : List ℕ). Include t h rest) e i in
     subst (λ (b : Bool). piece_at b text ≡ Ok (Some (kind.Include h), rest)) (sym f)
-      (subst (λ (t : List ℕ). piece_at true t ≡ Ok (Some (kind.Include h), rest)) (sym e) (then_token (at_hash true (drop 1 text)) (read_include (35 ∷ drop 1 text) (drop 1 text) h rest refl k)))
+    (subst (λ (t : List ℕ). piece_at true t ≡ Ok (Some (kind.Include h), rest)) (sym e) (then_token (at_hash true (drop 1 text)) (read_include (35 ∷ drop 1 text) (drop 1 text) h rest refl k)))
 
 pub read_piece : {fresh : Bool} {text : List ℕ} {k : Option Kind} {rest : List ℕ} → Piece fresh text k rest → piece_at fresh text ≡ Ok (k, rest)
 read_piece {fresh = fresh} {text = text} (space {b = b} {rest = rest} e h) = subst (λ (t : List ℕ). piece_at fresh t ≡ Ok (None, rest)) (sym e) (at_space fresh b rest h)

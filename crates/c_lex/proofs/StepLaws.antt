@@ -13,8 +13,41 @@ use Rattle.std.specs.Prelude.{codes}
 use Rattle.c_lex.specs.Classes.{is_letter, is_digit, is_octal, is_name_byte, begins, begins_with, Run}
 use Rattle.c_lex.specs.Spelling.{mark_text, header_text, begins_hex, Digits, hex, octal, decimal, Item, plain, simple, hex_one, hex_two, octal_one, octal_two, octal_three, Items}
 use Rattle.c_lex.specs.Spot.{start, after}
-use Rattle.c_lex.specs.Tokens.{Spelled, name, word, number, char, str, mark, include, Piece, space, line, block, token, Faulty, Splits, ends_at, token_at, tokens_of,
-  stray, long_name, left_out, large, long_long, point, tail, char_bad, char_second, char_cut, char_open, str_bad, str_cut, hash, open_comment}
+use Rattle.c_lex.specs.Tokens.{
+  Spelled,
+  name,
+  word,
+  number,
+  char,
+  str,
+  mark,
+  include,
+  Piece,
+  space,
+  line,
+  block,
+  token,
+  Faulty,
+  Splits,
+  ends_at,
+  token_at,
+  tokens_of,
+  stray,
+  long_name,
+  left_out,
+  large,
+  long_long,
+  point,
+  tail,
+  char_bad,
+  char_second,
+  char_cut,
+  char_open,
+  str_bad,
+  str_cut,
+  hash,
+  open_comment,
+}
 use Rattle.c_lex.specs.Reading.{Read, Fails, piece_at, IfAt, Step, Stuck, EndsAt, AreTokens}
 use Rattle.c_lex.proofs.MarkLaws.{no_empty_mark}
 use Rattle.c_lex.proofs.PieceLaws.{piece_right}
@@ -184,10 +217,14 @@ so_far_goes unit text tokens p q rest k more h s =
     let qc = ap (λ (z : Spot). z.col) s.at in
     record {
       goes = λ xs r split.
-        let sp : Splits (after p s.bytes) more xs r = subst (λ (z : Spot). Splits z more xs r) s.at split in
-        let t = h.goes ((k, s.bytes) ∷ xs) r (more, s.parts, s.some, s.piece, sp) in
-        record { pieces = t.pieces; split = t.split; ends = t.ends ∙ ap (λ (z : Spot). ends_at z xs) (sym s.at);
-          are = t.are ∙ ap (λ (z : Spot). tokens ++ (token_at unit p k ++ tokens_of unit z xs)) (sym s.at) ∙ sym (append_assoc tokens (token_at unit p k) (tokens_of unit q xs)) };
+          let sp : Splits (after p s.bytes) more xs r = subst (λ (z : Spot). Splits z more xs r) s.at split in
+          let t = h.goes ((k, s.bytes) ∷ xs) r (more, s.parts, s.some, s.piece, sp) in
+          record {
+            pieces = t.pieces;
+            split = t.split;
+            ends = t.ends ∙ ap (λ (z : Spot). ends_at z xs) (sym s.at);
+            are = t.are ∙ ap (λ (z : Spot). tokens ++ (token_at unit p k ++ tokens_of unit z xs)) (sym s.at) ∙ sym (append_assoc tokens (token_at unit p k) (tokens_of unit q xs));
+          };
       within = omega arith;
       line = omega arith;
       col = omega arith;

@@ -13,5 +13,4 @@ pub fn one_split()
         HasTokens unit text a → FirstFault unit text code place → ⊥ }
     ensures one_fault { (unit : ℕ) (text : List ℕ) (a b : ℕ) (p q : the_place.Place) →
         FirstFault unit text a p → FirstFault unit text b q → (a ≡ b) × (p ≡ q) }
-{
-}
+{}

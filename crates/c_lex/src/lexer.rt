@@ -20,10 +20,7 @@ use thiserror::Error;
 pub enum LexFault {
     /// The first fault of the text.
     #[error("{place:?}: E{code:02}")]
-    At {
-        code: u8,
-        place: Place,
-    },
+    At { code: u8, place: Place },
     #[error("no memory")]
     NoMemory,
 }
