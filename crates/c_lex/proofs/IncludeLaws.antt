@@ -11,9 +11,9 @@ use Rattle.c_lex.specs.declared.token.Kind.TheVariants as kind
 use Rattle.c_lex.specs.declared.token.Header.{Header}
 use Rattle.c_lex.specs.declared.token.Header.TheVariants as header
 use Rattle.c_lex.specs.Classes.{is_blank, begins, every, Run}
-use Rattle.c_lex.specs.Spelling.{same_text, header_text}
+use Rattle.c_lex.specs.Spelling.{header_text}
 use Rattle.c_lex.specs.Tokens.{Spelled, include, Include, Faulty, hash, ends_line}
-use Rattle.c_lex.specs.Reading.{Read, fault, front, back, strip, header_found, header_at, if_line_ends, named_header, include_at, included, hash_at}
+use Rattle.c_lex.specs.Reading.{same_text, Read, fault, front, back, strip, header_found, header_at, if_line_ends, named_header, include_at, included, hash_at}
 use Rattle.c_lex.proofs.RunLaws.{run_is, run_back}
 use Rattle.c_lex.proofs.Right.{Right, done, faults, either}
 

@@ -213,7 +213,7 @@ behind_hash [] e = absurd cc
 behind_hash (b ∷ t) e = cc
 
 read_spelled : {fresh : Bool} {text : List ℕ} {k : Kind} {rest : List ℕ} → Spelled fresh text k rest → piece_at fresh text ≡ Ok (Some k, rest)
-read_spelled {fresh = fresh} {text = text} (name {s = s} {rest = rest} h r e q l) = then_token (at_letter fresh text h) (read_name text s rest r e q l)
+read_spelled {fresh = fresh} {text = text} (name {s = s} {rest = rest} h r n l) = then_token (at_letter fresh text h) (read_name text s rest r n l)
 read_spelled {fresh = fresh} {text = text} (word {s = s} {rest = rest} {w = w} h r e) = then_token (at_letter fresh text h) (read_word text s rest w r e)
 read_spelled {fresh = fresh} {text = text} (number {rest = rest} {says = says} suffix d lt a b e f h) = then_token (at_digit fresh text (digits_begin d)) (read_number suffix rest says d lt a b e f h)
 read_spelled {fresh = fresh} {text = text} (char {v = v} {rest = rest} {body = body} e i) = subst (λ (t : List ℕ). piece_at fresh t ≡ Ok (Some (kind.Char v), rest)) (sym e) (then_token (at_char fresh body) (read_char (length body + 1) v body rest i))
@@ -241,8 +241,8 @@ cut_length b body = add-one (length body)
 
 pub read_fault : {fresh : Bool} {text : List ℕ} {code left : ℕ} → Faulty fresh text code left → piece_at fresh text ≡ Err (record { code = code; left = left })
 read_fault {fresh = fresh} {text = text} (stray {b = b} {rest = rest} e h) = subst (λ (t : List ℕ). piece_at fresh t ≡ Err (fault 1 t)) (sym e) (read_stray fresh b rest h)
-read_fault {fresh = fresh} {text = text} (long_name {s = s} {rest = rest} h r e q l) = then_fault (at_letter fresh text h) (read_long_name text s rest r e q l)
-read_fault {fresh = fresh} {text = text} (left_out {s = s} {rest = rest} h r e q) = then_fault (at_letter fresh text h) (read_left_out text s rest r e q)
+read_fault {fresh = fresh} {text = text} (long_name {s = s} {rest = rest} h r n l) = then_fault (at_letter fresh text h) (read_long_name text s rest r n l)
+read_fault {fresh = fresh} {text = text} (left_out {s = s} {rest = rest} w h r e) = then_fault (at_letter fresh text h) (read_left_out text s rest w r e)
 read_fault {fresh = fresh} {text = text} (large d h) = then_fault (at_digit fresh text (digits_begin d)) (read_large d h)
 read_fault {fresh = fresh} {text = text} (long_long d lt h) = then_fault (at_digit fresh text (digits_begin d)) (read_long_long d lt h)
 read_fault {fresh = fresh} {text = text} (point d lt h) = then_fault (at_digit fresh text (digits_begin d)) (read_point d lt h)

@@ -72,8 +72,8 @@ empty_digits {text = text} {base = base} {ds = ds} {more = more} d e = no_digits
 
 pub fault_not_at_end : {fresh : Bool} {text : List ℕ} {code left : ℕ} → Faulty fresh text code left → text ≡ [] → ⊥
 fault_not_at_end {text = text} (stray {b = b} {rest = rest} e h) = empty_apart text b rest e
-fault_not_at_end {text = text} (long_name h r e q l) = empty_letter text h
-fault_not_at_end {text = text} (left_out h r e q) = empty_letter text h
+fault_not_at_end {text = text} (long_name h r n l) = empty_letter text h
+fault_not_at_end {text = text} (left_out w h r e) = empty_letter text h
 fault_not_at_end (large d h) = empty_digits d
 fault_not_at_end (long_long d lt h) = empty_digits d
 fault_not_at_end (point d lt h) = empty_digits d

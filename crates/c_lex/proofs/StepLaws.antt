@@ -117,7 +117,7 @@ mark_some m [] e = absurd (no_empty_mark m [] (sym (ap (λ (z : List ℕ). z ++ 
 mark_some m (b ∷ s) e = omega arith
 
 spelled_shorter : {fresh : Bool} {text : List ℕ} {k : Kind} {rest : List ℕ} → Spelled fresh text k rest → Shorter text rest
-spelled_shorter {text = text} (name h r e q l) = run_shorter (letter_name text h) r
+spelled_shorter {text = text} (name h r n l) = run_shorter (letter_name text h) r
 spelled_shorter {text = text} (word h r e) = run_shorter (letter_name text h) r
 spelled_shorter (number suffix d lt a b e f h) = then_shorter (digits_shorter d) (record { bytes = suffix; parts = e })
 spelled_shorter (char {rest = rest} e i) = then_shorter (one_shorter 39 e) (then_behind (item_behind i) (one_behind 39 rest))
@@ -143,8 +143,8 @@ cons_length b n e h = let k = ap length e in omega arith
 
 pub fault_within : {fresh : Bool} {text : List ℕ} {code left : ℕ} → Faulty fresh text code left → left ≤ length text
 fault_within (stray e h) = omega arith
-fault_within (long_name h r e q l) = omega arith
-fault_within (left_out h r e q) = omega arith
+fault_within (long_name h r n l) = omega arith
+fault_within (left_out w h r e) = omega arith
 fault_within (large d h) = omega arith
 fault_within (long_long d lt h) = omega arith
 fault_within (point d lt h) = omega arith

@@ -1,7 +1,11 @@
 -- Reading one piece from the front of a text, from left to right. The laws of this crate say that what is read are the pieces
 -- of the definition, and no others.
-use Rattle.std.specs.Prelude.{◌≡◌, ◌≢◌, ◌≤◌, ℕ, zero, suc, ◌+◌, ◌*◌, ◌^◌, Bool, true, false, not, ◌&&◌, ◌||◌, nat_le, nat_lt, ◌==◌, List, [], ◌∷◌, ◌++◌, length, take, drop, codes, Option, Some, None, Result, Ok, Err, if◌then◌else◌}
+use Rattle.std.specs.Prelude.{◌≡◌, ◌≢◌, ◌≤◌, ℕ, zero, suc, ◌+◌, ◌*◌, ◌^◌, Bool, true, false, not, ◌&&◌, ◌||◌, nat_le, nat_lt, ◌==◌, List, [], ◌∷◌, ◌++◌, length, take, drop, codes, Option, Some, None, Result, Ok, Err, find, nat_eq, if◌then◌else◌}
 use Rattle.std.specs.Borrow.{Bor}
+use Rattle.std.specs.Cmp.Lexicographic.{pointwise}
+use Rattle.std.specs.List.{list_any}
+use Rattle.c_lex.specs.declared.words.LeftOut.{LeftOut}
+use Rattle.c_lex.specs.declared.words.TheConstants.{WORDS, LEFT_OUT}
 use Rattle.c_lex.specs.declared.fault.Fault.{Fault}
 use Rattle.c_lex.specs.declared.fault.PieceError.{PieceError}
 use Rattle.c_lex.specs.declared.fault.PieceError.TheVariants as errors
@@ -15,7 +19,7 @@ use Rattle.c_lex.specs.declared.token.Header.TheVariants as header
 use Rattle.c_lex.specs.declared.token.Punct.{Punct}
 use Rattle.c_lex.specs.declared.token.Punct.TheVariants as mark
 use Rattle.c_lex.specs.Classes.{is_letter, is_digit, is_octal, is_hex, is_name_byte, is_blank, is_space, is_in_line, is_u, is_l, is_plain, digit_value, begins, begins_with}
-use Rattle.c_lex.specs.Spelling.{same_text, word_of, is_left_out, begins_hex, value_of, begins_long_long, goes_on, simple_escape}
+use Rattle.c_lex.specs.Spelling.{word_text, left_out_text, begins_hex, value_of, begins_long_long, goes_on, simple_escape}
 use Rattle.c_lex.specs.declared.spot.Spot.{Spot}
 use Rattle.c_lex.specs.declared.token.Token.{Token}
 use Rattle.c_lex.specs.Spot.{start, after}
@@ -57,11 +61,20 @@ abbrev pub behind : (ℕ → Bool) → List ℕ → Option (List ℕ)
 behind p [] = None
 behind p (b ∷ bs) = if p b then Some bs else None
 
+abbrev pub same_text : List ℕ → List ℕ → Bool
+same_text = pointwise nat_eq
+
 -- what is behind a text
 unfoldable pub strip : List ℕ → List ℕ → Option (List ℕ)
 strip text p = if same_text (take (length p) text) p then Some (drop (length p) text) else None
 
 -- ---- names and words
+
+unfoldable pub word_of : List ℕ → Option Keyword
+word_of s = find (λ w. same_text (word_text w) s) WORDS
+
+unfoldable pub is_left_out : List ℕ → Bool
+is_left_out s = list_any (λ w. same_text (left_out_text w) s) LEFT_OUT
 
 abbrev pub named : List ℕ → List ℕ → List ℕ → Option Keyword → Read Kind
 named text s rest (Some w) = Ok (kind.Word w, rest)

@@ -1,9 +1,6 @@
 -- How words, marks, headers, numbers and escapes are spelled (C11 6.4.1, 6.4.4, 6.4.5, 6.4.6).
-use Rattle.std.specs.Prelude.{◌≡◌, ◌≢◌, ℕ, suc, ◌+◌, ◌*◌, ◌<◌, ◌≤◌, Bool, true, false, not, ◌&&◌, ◌||◌, nat_le, nat_lt, ◌==◌, List, [], ◌∷◌, ◌++◌, length, codes, Option, Some, None, find, if◌then◌else◌}
-use Rattle.std.specs.Cmp.Lexicographic.{pointwise}
-use Rattle.std.specs.Prelude.{nat_eq, drop}
-use Rattle.std.specs.List.{list_any}
-use Rattle.c_lex.specs.declared.words.TheConstants.{WORDS, LEFT_OUT}
+use Rattle.std.specs.Prelude.{◌≡◌, ◌≢◌, ℕ, suc, ◌+◌, ◌*◌, ◌<◌, ◌≤◌, Bool, true, false, not, ◌&&◌, ◌||◌, nat_le, nat_lt, ◌==◌, List, [], ◌∷◌, ◌++◌, length, codes, Option, Some, None, if◌then◌else◌}
+use Rattle.std.specs.Prelude.{drop}
 use Rattle.c_lex.specs.declared.token.Keyword.{Keyword}
 use Rattle.c_lex.specs.declared.token.Keyword.TheVariants as word
 use Rattle.c_lex.specs.declared.token.Punct.{Punct}
@@ -66,16 +63,10 @@ left_out_text left.Noreturn = codes "_Noreturn"
 left_out_text left.StaticAssert = codes "_Static_assert"
 left_out_text left.ThreadLocal = codes "_Thread_local"
 
-abbrev pub same_text : List ℕ → List ℕ → Bool
-same_text = pointwise nat_eq
-
--- the word of the language that is spelled so
-unfoldable pub word_of : List ℕ → Option Keyword
-word_of s = find (λ w. same_text (word_text w) s) WORDS
-
--- whether a word that is left out is spelled so
-unfoldable pub is_left_out : List ℕ → Bool
-is_left_out s = list_any (λ w. same_text (left_out_text w) s) LEFT_OUT
+-- neither a word of the language nor one that is left out
+pub record IsNoWord (s : List ℕ) : Type 0 where
+  pub no_word : (w : Keyword) → s ≢ word_text w
+  pub not_left_out : (w : LeftOut) → s ≢ left_out_text w
 
 -- ---- marks
 

@@ -8,9 +8,10 @@ use Rattle.c_lex.specs.declared.token.Keyword.{Keyword}
 use Rattle.c_lex.specs.declared.token.Punct.{Punct}
 use Rattle.c_lex.specs.declared.token.Header.{Header}
 use Rattle.c_lex.specs.declared.token.Token.{Token}
+use Rattle.c_lex.specs.declared.words.LeftOut.{LeftOut}
 use Rattle.c_lex.specs.Classes.{is_letter, is_digit, is_name_byte, is_blank, is_space, is_in_line, is_stray, begins, begins_with, every, Run}
 use Rattle.c_lex.specs.Spot.{start, after, place_of}
-use Rattle.c_lex.specs.Spelling.{word_of, is_left_out, mark_text, IsLongest, header_text, Digits, value_of, suffix_of, begins_long_long, Item, Items, IsCut}
+use Rattle.c_lex.specs.Spelling.{word_text, left_out_text, IsNoWord, mark_text, IsLongest, header_text, Digits, value_of, suffix_of, begins_long_long, Item, Items, IsCut}
 
 -- ---- includes
 
@@ -47,8 +48,8 @@ number_kind v s = kind.Number v (s.0 || nat_le (2 ^ 31) v) s.1
 -- Spelled fresh text k rest: the spelling of k stands at the front of the text, no byte of the rest could make it longer,
 -- and then comes the rest. fresh: the front is the first of its line but for blanks.
 pub data Spelled (fresh : Bool) (text : List ℕ) : Kind → List ℕ → Type 0 where
-  name : {s rest : List ℕ} → begins is_letter text ≡ true → Run is_name_byte s rest text → word_of s ≡ None → is_left_out s ≡ false → length s ≤ 255 → Spelled fresh text (kind.Name s) rest
-  word : {s rest : List ℕ} {w : Keyword} → begins is_letter text ≡ true → Run is_name_byte s rest text → word_of s ≡ Some w → Spelled fresh text (kind.Word w) rest
+  name : {s rest : List ℕ} → begins is_letter text ≡ true → Run is_name_byte s rest text → IsNoWord s → length s ≤ 255 → Spelled fresh text (kind.Name s) rest
+  word : {s rest : List ℕ} {w : Keyword} → begins is_letter text ≡ true → Run is_name_byte s rest text → s ≡ word_text w → Spelled fresh text (kind.Word w) rest
   number : {base : ℕ} {ds more rest : List ℕ} {says : Bool × Bool} (suffix : List ℕ) → Digits text base ds more → value_of base ds < 2 ^ 32 → begins_long_long more ≡ false → begins_with 46 more ≡ false →
       more ≡ suffix ++ rest → suffix_of suffix ≡ Some says → begins is_name_byte rest ≡ false → Spelled fresh text (number_kind (value_of base ds) says) rest
   char : {v : ℕ} {rest body : List ℕ} → text ≡ 39 ∷ body → Item 39 body v (39 ∷ rest) → Spelled fresh text (kind.Char v) rest
@@ -112,8 +113,8 @@ E06 = 6
 -- No piece stands at the front of the text: a fault with this code, where this many bytes of the text are left.
 pub data Faulty (fresh : Bool) (text : List ℕ) : ℕ → ℕ → Type 0 where
   stray : {b : ℕ} {rest : List ℕ} → text ≡ b ∷ rest → is_stray b ≡ true → Faulty fresh text E01 (length text)
-  long_name : {s rest : List ℕ} → begins is_letter text ≡ true → Run is_name_byte s rest text → word_of s ≡ None → is_left_out s ≡ false → 255 < length s → Faulty fresh text E01 (length text)
-  left_out : {s rest : List ℕ} → begins is_letter text ≡ true → Run is_name_byte s rest text → word_of s ≡ None → is_left_out s ≡ true → Faulty fresh text E06 (length text)
+  long_name : {s rest : List ℕ} → begins is_letter text ≡ true → Run is_name_byte s rest text → IsNoWord s → 255 < length s → Faulty fresh text E01 (length text)
+  left_out : {s rest : List ℕ} (w : LeftOut) → begins is_letter text ≡ true → Run is_name_byte s rest text → s ≡ left_out_text w → Faulty fresh text E06 (length text)
   large : {base : ℕ} {ds more : List ℕ} → Digits text base ds more → 2 ^ 32 ≤ value_of base ds → Faulty fresh text E02 (length text)
   long_long : {base : ℕ} {ds more : List ℕ} → Digits text base ds more → value_of base ds < 2 ^ 32 → begins_long_long more ≡ true → Faulty fresh text E06 (length text)
   point : {base : ℕ} {ds more : List ℕ} → Digits text base ds more → value_of base ds < 2 ^ 32 → begins_with 46 more ≡ true → Faulty fresh text E06 (length text)

@@ -1,6 +1,7 @@
 //! The words of the language, and those of C that it leaves out.
 
 ghost use Rattle.std.specs.Prelude.{◌≡◌};
+ghost use Rattle.c_lex.specs.Reading as reading;
 ghost use Rattle.c_lex.specs.Spelling as spec;
 
 use crate::token::Keyword;
@@ -140,17 +141,17 @@ fn left_out_text(word: LeftOut) -> &'static [u8]
 }
 
 /// The word that is spelled so.
-#[tactic(auto, unfolding(crate::specs::Spelling::word_of))]
+#[tactic(auto, unfolding(crate::specs::Reading::word_of))]
 pub fn word_of(name: &[u8]) -> Option<Keyword>
-    ensures { result ≡ spec.word_of name.now }
+    ensures { result ≡ reading.word_of name.now }
 {
     WORDS.iter().copied().find(|w| word_text(*w) == name)
 }
 
 /// Whether a word that is left out is spelled so.
-#[tactic(auto, unfolding(crate::specs::Spelling::is_left_out))]
+#[tactic(auto, unfolding(crate::specs::Reading::is_left_out))]
 pub fn is_left_out(name: &[u8]) -> bool
-    ensures { result ≡ spec.is_left_out name.now }
+    ensures { result ≡ reading.is_left_out name.now }
 {
     LEFT_OUT.iter().any(|w| left_out_text(*w) == name)
 }
