@@ -1,15 +1,15 @@
 -- What the lexer answers is the one answer.
-use Rattle.std.proofs.Common.{◌≡◌, ℕ, ◌-◌, ◌≤◌, ◌<◌, List, length, take, Result, Ok, Err, refl, sym, subst}
+use Rattle.std.proofs.Common.{◌≡◌, ℕ, ◌-◌, ◌≤◌, List, length, take, Err, sym}
 use Rattle.cm_base.specs.declared.place.Place.{Place}
 use Rattle.c_lex.specs.declared.fault.Fault.{Fault}
 use Rattle.c_lex.specs.declared.token.Token.{Token}
 use Rattle.c_lex.specs.declared.lexer.LexFault.{LexFault}
 use Rattle.c_lex.specs.declared.lexer.LexFault.TheVariants as fault
 use Rattle.c_lex.specs.Spot.{start, after, place_of}
-use Rattle.c_lex.specs.Tokens.{HasTokens, HasFault, FirstFault, too_long, of_text}
+use Rattle.c_lex.specs.Tokens.{HasTokens, FirstFault, of_text}
 use Rattle.c_lex.specs.Reading.{EndsAt, AreTokens}
 use Rattle.c_lex.specs.Answer.{IsFault, GivesTokens, GivesFault}
-use Rattle.c_lex.proofs.SplitLaws.{one_list, not_both, one_fault}
+use Rattle.c_lex.proofs.SplitLaws.{not_both, one_fault}
 
 pub fault_is : (unit : ℕ) (text : List ℕ) (f : Fault) (place : Place) → length text ≤ 1048576 → EndsAt text f → place ≡ place_of unit (after start (take (length text - f.left) text)) → FirstFault unit text f.code place
 fault_is unit text f place fits e at = of_text (record { fits = fits; pieces = e.pieces; rest = e.rest; left = f.left; split = e.split; fault = e.fault; at = sym at })

@@ -1,15 +1,13 @@
 -- Character constants and strings, as tokens.
-use Rattle.std.proofs.Common.{◌≡◌, ◌≢◌, ℕ, zero, suc, ◌+◌, ◌-◌, ◌*◌, ◌^◌, ◌<◌, ◌≤◌, Bool, true, false, not, cond, ◌&&◌, ◌||◌, nat_le, ltb, leb, eqb, List, [], ◌∷◌, ◌++◌, length, take, drop, Option, Some, None, Result, Ok, Err, refl, sym, ap, subst, ◌∙◌, append_assoc, arith, inl, inr, ◌⊎◌}
+use Rattle.std.proofs.Common.{◌≡◌, ℕ, ◌<◌, Bool, false, eqb, List, [], ◌∷◌, length, Ok, Err, refl, subst}
 use Rattle.std.proofs.lemmas.Bool.{eqb-true}
-use Rattle.c_lex.specs.declared.fault.Fault.{Fault}
-use Rattle.c_lex.specs.declared.token.Kind.{Kind}
 use Rattle.c_lex.specs.declared.token.Kind.TheVariants as kind
 use Rattle.c_lex.specs.Classes.{begins_with}
 use Rattle.c_lex.specs.Spelling.{Item, IsCut, Items}
 use Rattle.c_lex.specs.Tokens.{Spelled, char, str, Faulty, char_bad, char_second, char_cut, char_open, str_bad, str_cut}
-use Rattle.c_lex.specs.Reading.{◌>>=◌, Read, fault, close_char, char_at, string_at}
+use Rattle.c_lex.specs.Reading.{◌>>=◌, fault, close_char, char_at, string_at}
 use Rattle.c_lex.proofs.Right.{Right, done, faults, either, and_so}
-use Rattle.c_lex.proofs.LiteralLaws.{IsBad, ItemFault, is_cut, is_bad, item_answers, item_read, cut_read, bad_read, StringFault, StringOf, string_answers, string_again, string_cut_again, string_bad_again}
+use Rattle.c_lex.proofs.LiteralLaws.{IsBad, ItemFault, is_cut, is_bad, item_answers, item_read, cut_read, bad_read, string_answers}
 
 module _ (fresh : Bool) (text body : List ℕ) where
   char_fault : text ≡ 39 ∷ body → (code left : ℕ) → ItemFault (length text) 39 body code left → Faulty fresh text code left

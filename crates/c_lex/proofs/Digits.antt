@@ -1,7 +1,7 @@
 -- How large digits are.
-use Rattle.std.proofs.Common.{◌≡◌, ℕ, ◌<◌, ◌≤◌, Bool, true, false, ◌||◌, ◌&&◌, arith}
+use Rattle.std.proofs.Common.{◌≡◌, ℕ, ◌<◌, true, arith}
 use Rattle.std.proofs.lemmas.Bool.Decides.{nat_tests}
-use Rattle.c_lex.specs.Classes.{is_hex, is_octal, is_digit, digit_value}
+use Rattle.c_lex.specs.Classes.{is_hex, is_octal, digit_value}
 
 pub hex_digit : (b : ℕ) → is_hex b ≡ true → digit_value b < 16
 unfolding is_hex digit_value

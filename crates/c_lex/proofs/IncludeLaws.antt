@@ -1,21 +1,19 @@
 -- Includes.
-use Rattle.std.proofs.Common.{◌≡◌, ◌≢◌, ℕ, zero, suc, ◌+◌, ◌-◌, ◌*◌, ◌^◌, ◌<◌, ◌≤◌, Bool, true, false, not, cond, ◌&&◌, ◌||◌, nat_le, ltb, leb, eqb, List, [], ◌∷◌, ◌++◌, length, take, drop, Option, Some, None, Result, Ok, Err, refl, sym, ap, subst, ◌∙◌, append_assoc, arith, inl, inr, ◌⊎◌}
+use Rattle.std.proofs.Common.{◌≡◌, ℕ, Bool, true, false, cond, ◌&&◌, ◌||◌, eqb, List, [], ◌∷◌, ◌++◌, length, take, drop, Option, Some, None, Ok, Err, refl, sym, ap, subst, ◌∙◌}
 use Rattle.std.proofs.lemmas.Bool.{eqb-true}
 use Rattle.std.proofs.lemmas.Bool.Decides.{Decides-eqb}
 use Rattle.std.proofs.lemmas.Slice.Eq.{slice_eq-Decides}
 use Rattle.std.proofs.lemmas.List.{take_at, drop_at, take-append-drop}
 use Rattle.std.specs.Prelude.{codes}
-use Rattle.c_lex.specs.declared.fault.Fault.{Fault}
-use Rattle.c_lex.specs.declared.token.Kind.{Kind}
 use Rattle.c_lex.specs.declared.token.Kind.TheVariants as kind
 use Rattle.c_lex.specs.declared.token.Header.{Header}
 use Rattle.c_lex.specs.declared.token.Header.TheVariants as header
-use Rattle.c_lex.specs.Classes.{is_blank, begins, every, Run}
+use Rattle.c_lex.specs.Classes.{is_blank, begins}
 use Rattle.c_lex.specs.Spelling.{header_text}
 use Rattle.c_lex.specs.Tokens.{Spelled, include, Include, Faulty, hash, ends_line}
-use Rattle.c_lex.specs.Reading.{same_text, Read, fault, front, back, strip, header_found, header_at, if_line_ends, named_header, include_at, included, hash_at}
+use Rattle.c_lex.specs.Reading.{same_text, fault, front, back, strip, header_found, header_at, if_line_ends, named_header, include_at, included, hash_at}
 use Rattle.c_lex.proofs.RunLaws.{run_is, run_back}
-use Rattle.c_lex.proofs.Right.{Right, done, faults, either}
+use Rattle.c_lex.proofs.Right.{Right, done, faults}
 
 same_is : (a b : List ℕ) → same_text a b ≡ true → a ≡ b
 same_is a b = (slice_eq-Decides Decides-eqb a b (same_text a b) refl).0

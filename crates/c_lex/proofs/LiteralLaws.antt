@@ -1,16 +1,13 @@
 -- Characters, escapes and strings.
-use Rattle.std.proofs.Common.{◌≡◌, ◌≢◌, ℕ, zero, suc, ◌+◌, ◌-◌, ◌*◌, ◌^◌, ◌<◌, ◌≤◌, Bool, true, false, not, cond, ◌&&◌, ◌||◌, nat_le, ltb, leb, eqb, List, [], ◌∷◌, ◌++◌, length, take, drop, Option, Some, None, Result, Ok, Err, refl, sym, ap, subst, ◌∙◌, append_assoc, arith, inl, inr, ◌⊎◌}
+use Rattle.std.proofs.Common.{◌≡◌, ℕ, zero, suc, ◌+◌, ◌*◌, ◌<◌, Bool, true, false, not, cond, ◌&&◌, leb, eqb, List, [], ◌∷◌, length, drop, Option, Some, None, Ok, Err, refl, sym, ap, subst, ◌∙◌, arith}
 use Rattle.std.proofs.lemmas.Bool.{eqb-true}
 use Rattle.std.proofs.lemmas.Bool.Decides.{nat_tests}
-use Rattle.c_lex.specs.declared.fault.Fault.{Fault}
 use Rattle.c_lex.specs.declared.fault.Flaw.{Flaw}
 use Rattle.c_lex.specs.declared.fault.Flaw.TheVariants as flaw
-use Rattle.c_lex.specs.declared.token.Kind.{Kind}
-use Rattle.c_lex.specs.declared.token.Kind.TheVariants as kind
 use Rattle.c_lex.specs.Classes.{is_octal, is_hex, is_plain, digit_value, begins, begins_with}
 use Rattle.c_lex.specs.Spelling.{simple_escape, goes_on, Item, plain, simple, hex_one, hex_two, octal_one, octal_two, octal_three, IsCut, at_end, at_backslash, at_x, Items}
 use Rattle.c_lex.proofs.Right.{Right, done, faults, either, and_so}
-use Rattle.c_lex.specs.Reading.{◌>>=◌, Read, Seen, fault, hex_behind, hex_at, third_at, octal_at, simple_at, escape_at, item_at, placed, literal_item, close_char, char_at, string_at}
+use Rattle.c_lex.specs.Reading.{◌>>=◌, Seen, fault, hex_behind, hex_at, third_at, octal_at, simple_at, escape_at, item_at, placed, literal_item, string_at}
 
 -- ---- items are read again
 

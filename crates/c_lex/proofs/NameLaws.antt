@@ -1,12 +1,10 @@
 -- Names and words.
-use Rattle.std.proofs.Common.{◌≡◌, ◌≢◌, ℕ, ◌<◌, ◌≤◌, Bool, true, false, cond, ◌||◌, ltb, List, [], ◌∷◌, length, Option, Some, None, Result, Ok, Err, refl, sym, ap, ◌∙◌}
+use Rattle.std.proofs.Common.{◌≡◌, ℕ, ◌<◌, ◌≤◌, Bool, true, false, cond, ◌||◌, ltb, List, [], ◌∷◌, length, Option, Some, None, Ok, Err, refl, sym, ap, ◌∙◌}
 use Rattle.std.specs.Prelude.{find}
 use Rattle.std.specs.List.{list_any}
 use Rattle.std.proofs.lemmas.Bool.{le-ltb, lt-ltb}
 use Rattle.std.proofs.lemmas.Bool.Decides.{Decides-eqb}
 use Rattle.std.proofs.lemmas.Slice.Eq.{slice_eq-Decides}
-use Rattle.c_lex.specs.declared.fault.Fault.{Fault}
-use Rattle.c_lex.specs.declared.token.Kind.{Kind}
 use Rattle.c_lex.specs.declared.token.Kind.TheVariants as kind
 use Rattle.c_lex.specs.declared.token.Keyword.{Keyword}
 use Rattle.c_lex.specs.declared.token.Keyword.TheVariants as word_is
@@ -16,7 +14,7 @@ use Rattle.c_lex.specs.declared.words.TheConstants.{WORDS, LEFT_OUT}
 use Rattle.c_lex.specs.Classes.{is_letter, is_name_byte, begins, Run}
 use Rattle.c_lex.specs.Spelling.{word_text, left_out_text, IsNoWord}
 use Rattle.c_lex.specs.Tokens.{Spelled, name, word, Faulty, long_name, left_out, E01, E06}
-use Rattle.c_lex.specs.Reading.{Read, fault, front, back, same_text, word_of, is_left_out, named, name_at}
+use Rattle.c_lex.specs.Reading.{fault, front, back, same_text, word_of, is_left_out, named, name_at}
 use Rattle.c_lex.proofs.RunLaws.{run_is, run_front, run_back}
 use Rattle.c_lex.proofs.Right.{Right, done, faults, either, ltb_no, ltb_yes}
 

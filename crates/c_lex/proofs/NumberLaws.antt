@@ -1,11 +1,10 @@
 -- Numbers.
-use Rattle.std.proofs.Common.{◌≡◌, ◌≢◌, ℕ, zero, suc, ◌+◌, ◌-◌, ◌*◌, ◌^◌, ◌<◌, ◌≤◌, Bool, true, false, not, cond, ◌&&◌, ◌||◌, nat_le, ltb, leb, eqb, List, [], ◌∷◌, ◌++◌, length, take, drop, Option, Some, None, Result, Ok, Err, refl, sym, ap, subst, ◌∙◌, append_assoc, arith, inl, inr, ◌⊎◌}
+use Rattle.std.proofs.Common.{◌≡◌, ◌≢◌, ℕ, ◌^◌, ◌<◌, ◌≤◌, Bool, true, false, cond, ◌&&◌, ◌||◌, ltb, List, [], ◌∷◌, ◌++◌, drop, Option, Some, None, Ok, Err, refl, sym, ap, subst, ◌∙◌, arith}
 use Rattle.std.proofs.lemmas.Bool.{le-ltb, lt-ltb}
 use Rattle.std.proofs.lemmas.Bool.Decides.{nat_tests}
-use Rattle.c_lex.specs.declared.fault.Fault.{Fault}
 use Rattle.c_lex.specs.declared.token.Kind.{Kind}
-use Rattle.c_lex.specs.Classes.{is_digit, is_octal, is_hex, is_name_byte, is_letter, is_u, is_l, begins, begins_with, Run}
-use Rattle.c_lex.specs.Spelling.{begins_hex, Digits, hex, octal, decimal, value_of, suffix_of, two_alike, begins_long_long}
+use Rattle.c_lex.specs.Classes.{is_digit, is_octal, is_hex, is_name_byte, is_letter, is_u, is_l, begins, begins_with}
+use Rattle.c_lex.specs.Spelling.{begins_hex, Digits, hex, octal, decimal, value_of, suffix_of, begins_long_long}
 use Rattle.c_lex.specs.Tokens.{Spelled, number, Faulty, large, long_long, point, tail, number_kind, E01, E02, E06}
 use Rattle.c_lex.specs.Reading.{Read, fault, front, back, behind, digits_at, suffix_at, begun_by_u, begun_by_l, l_behind, u_behind, number_with, number_at}
 use Rattle.c_lex.proofs.RunLaws.{run_is, run_front, run_back}

@@ -1,56 +1,21 @@
 -- What is read from the front of a text is its piece or its fault, and each piece and each fault is read.
-use Rattle.std.proofs.Common.{◌≡◌, ◌≢◌, ℕ, zero, suc, ◌+◌, ◌-◌, ◌*◌, ◌^◌, ◌<◌, ◌≤◌, Bool, true, false, not, cond, ◌&&◌, ◌||◌, nat_le, ltb, leb, eqb, List, [], ◌∷◌, ◌++◌, length, take, drop, Option, Some, None, Result, Ok, Err, refl, sym, ap, subst, ◌∙◌, append_assoc, arith, inl, inr, ◌⊎◌, add-one, eq-eqb}
+use Rattle.std.proofs.Common.{◌≡◌, ◌≢◌, ℕ, zero, suc, ◌+◌, ◌<◌, ◌≤◌, Bool, true, false, cond, ◌&&◌, ◌||◌, ltb, eqb, List, [], ◌∷◌, length, Option, Some, None, Ok, refl, sym, ap, subst, arith, add-one, eq-eqb}
 use Rattle.std.proofs.lemmas.Bool.{eqb-true, ltb-true, ltb-false}
 use Rattle.std.proofs.lemmas.Bool.Decides.{nat_tests}
-use Rattle.c_lex.specs.declared.fault.Fault.{Fault}
 use Rattle.c_lex.specs.declared.token.Kind.{Kind}
 use Rattle.c_lex.specs.declared.token.Kind.TheVariants as kind
 use Rattle.c_lex.specs.declared.token.Punct.{Punct}
-use Rattle.c_lex.specs.Classes.{is_space, is_blank, is_in_line, is_letter, is_digit, is_name_byte, is_stray, is_no_text, begins, begins_with, Run}
-use Rattle.c_lex.specs.Spelling.{mark_text, begins_hex, Digits, hex, octal, decimal, Items}
-use Rattle.c_lex.specs.Tokens.{
-  Spelled,
-  name,
-  word,
-  number,
-  char,
-  str,
-  mark,
-  include,
-  Piece,
-  space,
-  line,
-  block,
-  token,
-  Closes,
-  begins_comment,
-  Faulty,
-  stray,
-  long_name,
-  left_out,
-  large,
-  long_long,
-  point,
-  tail,
-  char_bad,
-  char_second,
-  char_cut,
-  char_open,
-  str_bad,
-  str_cut,
-  hash,
-  open_comment,
-}
+use Rattle.c_lex.specs.Classes.{is_space, is_blank, is_in_line, is_letter, is_digit, is_name_byte, is_stray, is_no_text}
+use Rattle.c_lex.specs.Tokens.{Spelled, mark, Piece, space, line, block, token, begins_comment, Faulty, stray, open_comment}
 use Rattle.c_lex.specs.Reading.{◌>>=◌, Read, fault, back, as_token, name_at, number_at, char_at, string_at, hash_at, commented, close_at, one_mark, mark_at, marked, begins_token, token_at, other_at, slash_at, piece_at}
-use Rattle.c_lex.proofs.Right.{Right, done, faults, either, and_so}
-use Rattle.c_lex.proofs.RunLaws.{run_is, run_back}
-use Rattle.c_lex.proofs.NameLaws.{name_right, read_word, read_name, read_left_out, read_long_name}
-use Rattle.c_lex.proofs.NumberLaws.{number_right, read_number, read_tail, read_large, read_long_long, read_point}
-use Rattle.c_lex.proofs.LiteralLaws.{string_again, string_cut_again, string_bad_again}
-use Rattle.c_lex.proofs.CharLaws.{char_right, string_right, read_char, read_char_bad, read_char_second, read_char_cut, read_char_open}
-use Rattle.c_lex.proofs.ClosingLaws.{close_some, close_none, close_again, close_open}
-use Rattle.c_lex.proofs.IncludeLaws.{hash_right, read_include, read_hash}
-use Rattle.c_lex.proofs.MarkLaws.{Longest, MarkRead, a_mark, no_mark, mark_right, mark_again, MarkByte, begins_mark, one_begins}
+use Rattle.c_lex.proofs.Right.{Right, done, faults, and_so}
+use Rattle.c_lex.proofs.RunLaws.{run_is}
+use Rattle.c_lex.proofs.NameLaws.{name_right}
+use Rattle.c_lex.proofs.NumberLaws.{number_right}
+use Rattle.c_lex.proofs.CharLaws.{char_right, string_right}
+use Rattle.c_lex.proofs.ClosingLaws.{close_some, close_none}
+use Rattle.c_lex.proofs.IncludeLaws.{hash_right}
+use Rattle.c_lex.proofs.MarkLaws.{MarkRead, a_mark, no_mark, mark_right, one_begins}
 
 -- ---- bytes that begin nothing
 

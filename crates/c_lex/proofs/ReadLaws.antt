@@ -1,14 +1,13 @@
 -- Each piece and each fault is read.
-use Rattle.std.proofs.Common.{◌≡◌, ◌≢◌, ℕ, zero, suc, ◌+◌, ◌-◌, ◌*◌, ◌^◌, ◌<◌, ◌≤◌, Bool, true, false, not, cond, ◌&&◌, ◌||◌, nat_le, ltb, leb, eqb, List, [], ◌∷◌, ◌++◌, length, take, drop, Option, Some, None, Result, Ok, Err, refl, sym, ap, subst, ◌∙◌, append_assoc, arith, inl, inr, ◌⊎◌, add-one}
+use Rattle.std.proofs.Common.{◌≡◌, ℕ, ◌+◌, Bool, true, false, cond, ◌&&◌, ◌||◌, eqb, List, [], ◌∷◌, ◌++◌, length, drop, Option, Some, None, Ok, Err, refl, sym, ap, subst, ◌∙◌, arith, add-one}
 use Rattle.std.proofs.lemmas.Bool.{eqb-true}
 use Rattle.std.proofs.lemmas.Bool.Decides.{nat_tests}
-use Rattle.std.proofs.lemmas.List.{length-append}
 use Rattle.c_lex.specs.declared.fault.Fault.{Fault}
 use Rattle.c_lex.specs.declared.token.Kind.{Kind}
 use Rattle.c_lex.specs.declared.token.Kind.TheVariants as kind
 use Rattle.c_lex.specs.declared.token.Punct.{Punct}
 use Rattle.c_lex.specs.Classes.{is_hex, is_space, is_blank, is_in_line, is_letter, is_digit, is_name_byte, is_stray, is_no_text, begins, begins_with, Run}
-use Rattle.c_lex.specs.Spelling.{mark_text, begins_hex, Digits, hex, octal, decimal, Items}
+use Rattle.c_lex.specs.Spelling.{begins_hex, Digits, hex, octal, decimal, Items}
 use Rattle.c_lex.specs.Tokens.{
   Include,
   Spelled,
@@ -43,16 +42,15 @@ use Rattle.c_lex.specs.Tokens.{
   hash,
   open_comment,
 }
-use Rattle.c_lex.specs.Reading.{◌>>=◌, Read, fault, back, as_token, name_at, number_at, char_at, string_at, hash_at, commented, close_at, one_mark, mark_at, marked, begins_token, token_at, other_at, slash_at, piece_at}
-use Rattle.c_lex.proofs.Right.{Right, done, faults, either, and_so}
-use Rattle.c_lex.proofs.RunLaws.{run_is, run_back}
-use Rattle.c_lex.proofs.NameLaws.{name_right, read_word, read_name, read_left_out, read_long_name}
-use Rattle.c_lex.proofs.NumberLaws.{number_right, read_number, read_tail, read_large, read_long_long, read_point}
+use Rattle.c_lex.specs.Reading.{◌>>=◌, Read, fault, back, as_token, name_at, number_at, char_at, string_at, hash_at, commented, close_at, mark_at, marked, begins_token, token_at, other_at, slash_at, piece_at}
+use Rattle.c_lex.proofs.RunLaws.{run_back}
+use Rattle.c_lex.proofs.NameLaws.{read_word, read_name, read_left_out, read_long_name}
+use Rattle.c_lex.proofs.NumberLaws.{read_number, read_tail, read_large, read_long_long, read_point}
 use Rattle.c_lex.proofs.LiteralLaws.{string_again, string_cut_again, string_bad_again}
-use Rattle.c_lex.proofs.CharLaws.{char_right, string_right, read_char, read_char_bad, read_char_second, read_char_cut, read_char_open}
-use Rattle.c_lex.proofs.ClosingLaws.{close_some, close_none, close_again, close_open}
-use Rattle.c_lex.proofs.IncludeLaws.{hash_right, read_include, read_hash}
-use Rattle.c_lex.proofs.MarkLaws.{Longest, MarkRead, a_mark, no_mark, mark_right, mark_again, MarkByte, begins_mark, no_empty_mark}
+use Rattle.c_lex.proofs.CharLaws.{read_char, read_char_bad, read_char_second, read_char_cut, read_char_open}
+use Rattle.c_lex.proofs.ClosingLaws.{close_again, close_open}
+use Rattle.c_lex.proofs.IncludeLaws.{read_include, read_hash}
+use Rattle.c_lex.proofs.MarkLaws.{Longest, MarkRead, a_mark, no_mark, mark_right, mark_again, begins_mark, no_empty_mark}
 
 letter_no_space : (b : ℕ) → is_letter b ≡ true → is_space b ≡ false
 unfolding is_letter is_space is_blank

@@ -1,9 +1,8 @@
 -- What a reader answers is right.
-use Rattle.std.proofs.Common.{◌≡◌, ◌≢◌, ℕ, zero, suc, ◌+◌, ◌-◌, ◌*◌, ◌^◌, ◌<◌, ◌≤◌, Bool, true, false, not, cond, ◌&&◌, ◌||◌, nat_le, ltb, leb, eqb, List, [], ◌∷◌, ◌++◌, length, take, drop, Option, Some, None, Result, Ok, Err, refl, sym, ap, subst, ◌∙◌, append_assoc, arith, inl, inr, ◌⊎◌}
-use Rattle.std.proofs.lemmas.Bool.{ltb-true, ltb-false, eqb-true}
+use Rattle.std.proofs.Common.{◌≡◌, ℕ, ◌<◌, ◌≤◌, Bool, true, false, cond, ltb, List, Ok, Err, refl, subst}
+use Rattle.std.proofs.lemmas.Bool.{ltb-true, ltb-false}
 use Rattle.c_lex.specs.declared.fault.Fault.{Fault}
-use Rattle.c_lex.specs.declared.token.Kind.{Kind}
-use Rattle.c_lex.specs.Reading.{◌>>=◌, Read, fault, as_token}
+use Rattle.c_lex.specs.Reading.{◌>>=◌, Read}
 
 pub record Right {A : Type 0} (P : A → List ℕ → Type 0) (Q : ℕ → ℕ → Type 0) (r : Read A) : Type 0 where
   pub holds : (a : A) (rest : List ℕ) → r ≡ Ok (a, rest) → P a rest

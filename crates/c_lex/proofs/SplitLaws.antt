@@ -1,15 +1,15 @@
 -- A text has one split.
-use Rattle.std.proofs.Common.{◌≡◌, ◌≢◌, ℕ, zero, suc, ◌+◌, ◌-◌, ◌*◌, ◌^◌, ◌<◌, ◌≤◌, Bool, true, false, not, cond, ◌&&◌, ◌||◌, nat_le, ltb, leb, eqb, List, [], ◌∷◌, ◌++◌, length, take, drop, Option, Some, None, Result, Ok, Err, refl, sym, ap, subst, ◌∙◌, append_assoc, arith, inl, inr, ◌⊎◌, add-one}
-use Rattle.std.proofs.lemmas.List.{append_cancel_right, take_at}
+use Rattle.std.proofs.Common.{◌≡◌, ℕ, ◌-◌, Bool, true, List, [], ◌∷◌, ◌++◌, length, take, Option, Ok, Err, refl, sym, ap, subst, ◌∙◌, arith}
+use Rattle.std.proofs.lemmas.List.{append_cancel_right}
 use Rattle.cm_base.specs.declared.place.Place.{Place}
 use Rattle.c_lex.specs.declared.fault.Fault.{Fault}
 use Rattle.c_lex.specs.declared.spot.Spot.{Spot}
 use Rattle.c_lex.specs.declared.token.Kind.{Kind}
 use Rattle.c_lex.specs.declared.token.Token.{Token}
-use Rattle.c_lex.specs.Classes.{begins, begins_with, is_letter, is_digit}
-use Rattle.c_lex.specs.Spelling.{begins_hex, Digits}
+use Rattle.c_lex.specs.Classes.{begins, is_letter}
+use Rattle.c_lex.specs.Spelling.{Digits}
 use Rattle.c_lex.specs.Spot.{start, after, place_of}
-use Rattle.c_lex.specs.Tokens.{Piece, Splits, ends_at, token_at, tokens_of, Faulty, stray, long_name, left_out, large, long_long, point, tail, char_bad, char_second, char_cut, char_open, str_bad, str_cut, hash, open_comment, HasTokens, HasFault, FirstFault, too_long, of_text}
+use Rattle.c_lex.specs.Tokens.{Splits, ends_at, tokens_of, Faulty, stray, long_name, left_out, large, long_long, point, tail, char_bad, char_second, char_cut, char_open, str_bad, str_cut, hash, open_comment, HasTokens, HasFault, FirstFault, too_long, of_text}
 use Rattle.c_lex.specs.Reading.{Read, piece_at}
 use Rattle.c_lex.proofs.ReadLaws.{read_piece, read_fault, digits_begin}
 

@@ -1,8 +1,6 @@
 -- One step of the split, and the split as a loop does it.
-use Rattle.std.proofs.Common.{◌≡◌, ◌≢◌, ℕ, zero, suc, ◌+◌, ◌-◌, ◌*◌, ◌^◌, ◌<◌, ◌≤◌, Bool, true, false, not, cond, ◌&&◌, ◌||◌, nat_le, ltb, leb, eqb, List, [], ◌∷◌, ◌++◌, length, take, drop, Option, Some, None, Result, Ok, Err, refl, sym, ap, subst, ◌∙◌, append_assoc, arith, inl, inr, ◌⊎◌, add-one}
+use Rattle.std.proofs.Common.{◌≡◌, ◌≢◌, ℕ, ◌+◌, ◌-◌, ◌<◌, ◌≤◌, Bool, true, List, [], ◌∷◌, ◌++◌, length, take, drop, Option, Ok, refl, sym, ap, subst, ◌∙◌, append_assoc, arith}
 use Rattle.std.proofs.lemmas.List.{take_at, length-append, append-nil}
-use Rattle.std.proofs.lemmas.Bool.{eqb-true}
-use Rattle.c_lex.specs.declared.fault.Fault.{Fault}
 use Rattle.c_lex.specs.declared.fault.PieceError.{PieceError}
 use Rattle.c_lex.specs.declared.fault.PieceError.TheVariants as errors
 use Rattle.c_lex.specs.declared.spot.Spot.{Spot}
@@ -10,7 +8,7 @@ use Rattle.c_lex.specs.declared.token.Kind.{Kind}
 use Rattle.c_lex.specs.declared.token.Punct.{Punct}
 use Rattle.c_lex.specs.declared.token.Token.{Token}
 use Rattle.std.specs.Prelude.{codes}
-use Rattle.c_lex.specs.Classes.{is_letter, is_digit, is_octal, is_name_byte, begins, begins_with, Run}
+use Rattle.c_lex.specs.Classes.{is_letter, is_octal, is_name_byte, begins, Run}
 use Rattle.c_lex.specs.Spelling.{mark_text, header_text, begins_hex, Digits, hex, octal, decimal, Item, plain, simple, hex_one, hex_two, octal_one, octal_two, octal_three, Items}
 use Rattle.c_lex.specs.Spot.{start, after}
 use Rattle.c_lex.specs.Tokens.{
@@ -48,10 +46,10 @@ use Rattle.c_lex.specs.Tokens.{
   hash,
   open_comment,
 }
-use Rattle.c_lex.specs.Reading.{Read, Fails, piece_at, IfAt, Step, Stuck, EndsAt, AreTokens}
+use Rattle.c_lex.specs.Reading.{Fails, piece_at, IfAt, Step, Stuck, EndsAt, AreTokens}
 use Rattle.c_lex.proofs.MarkLaws.{no_empty_mark}
 use Rattle.c_lex.proofs.PieceLaws.{piece_right}
-use Rattle.c_lex.proofs.ReadLaws.{begun, zero_digit, hex_zero}
+use Rattle.c_lex.proofs.ReadLaws.{begun}
 use Rattle.c_lex.proofs.Spots.{after-line, after-col}
 
 -- some bytes, and then the rest

@@ -4,7 +4,6 @@ use Rattle.std.specs.Prelude.{◌≡◌, ◌≢◌, ◌≤◌, ℕ, zero, suc, �
 use Rattle.std.specs.Borrow.{Bor}
 use Rattle.std.specs.Cmp.Lexicographic.{pointwise}
 use Rattle.std.specs.List.{list_any}
-use Rattle.c_lex.specs.declared.words.LeftOut.{LeftOut}
 use Rattle.c_lex.specs.declared.words.TheConstants.{WORDS, LEFT_OUT}
 use Rattle.c_lex.specs.declared.fault.Fault.{Fault}
 use Rattle.c_lex.specs.declared.fault.PieceError.{PieceError}
@@ -19,7 +18,7 @@ use Rattle.c_lex.specs.declared.token.Header.TheVariants as header
 use Rattle.c_lex.specs.declared.token.Punct.{Punct}
 use Rattle.c_lex.specs.declared.token.Punct.TheVariants as mark
 use Rattle.c_lex.specs.Classes.{is_letter, is_digit, is_octal, is_hex, is_name_byte, is_blank, is_space, is_in_line, is_u, is_l, is_plain, digit_value, begins, begins_with}
-use Rattle.c_lex.specs.Spelling.{word_text, left_out_text, begins_hex, value_of, begins_long_long, goes_on, simple_escape}
+use Rattle.c_lex.specs.Spelling.{word_text, left_out_text, begins_hex, value_of, begins_long_long, simple_escape}
 use Rattle.c_lex.specs.declared.spot.Spot.{Spot}
 use Rattle.c_lex.specs.declared.token.Token.{Token}
 use Rattle.c_lex.specs.Spot.{start, after}
@@ -84,12 +83,6 @@ unfoldable pub name_at : List ℕ → Read Kind
 name_at text = named text (front is_name_byte text) (back is_name_byte text) (word_of (front is_name_byte text))
 
 -- ---- numbers
-
-abbrev pub base_at : List ℕ → ℕ
-base_at text = if begins_hex text then 16 else (if begins_with 48 text then 8 else 10)
-
-abbrev pub digit_in : ℕ → ℕ → Bool
-digit_in base = if base == 16 then is_hex else (if base == 8 then is_octal else is_digit)
 
 -- the base, the digits, and what is behind them
 abbrev pub digits_at : List ℕ → ℕ × List ℕ × List ℕ

@@ -1,5 +1,5 @@
 -- How words, marks, headers, numbers and escapes are spelled (C11 6.4.1, 6.4.4, 6.4.5, 6.4.6).
-use Rattle.std.specs.Prelude.{◌≡◌, ◌≢◌, ℕ, suc, ◌+◌, ◌*◌, ◌<◌, ◌≤◌, Bool, true, false, not, ◌&&◌, ◌||◌, nat_le, nat_lt, ◌==◌, List, [], ◌∷◌, ◌++◌, length, codes, Option, Some, None, if◌then◌else◌}
+use Rattle.std.specs.Prelude.{◌≡◌, ◌≢◌, ℕ, ◌+◌, ◌*◌, ◌≤◌, Bool, true, false, ◌&&◌, ◌||◌, nat_le, ◌==◌, List, [], ◌∷◌, ◌++◌, length, codes, Option, Some, None, if◌then◌else◌}
 use Rattle.std.specs.Prelude.{drop}
 use Rattle.c_lex.specs.declared.token.Keyword.{Keyword}
 use Rattle.c_lex.specs.declared.token.Keyword.TheVariants as word
@@ -9,7 +9,7 @@ use Rattle.c_lex.specs.declared.token.Header.{Header}
 use Rattle.c_lex.specs.declared.token.Header.TheVariants as header
 use Rattle.c_lex.specs.declared.words.LeftOut.{LeftOut}
 use Rattle.c_lex.specs.declared.words.LeftOut.TheVariants as left
-use Rattle.c_lex.specs.Classes.{is_digit, is_octal, is_hex, is_name_byte, is_u, is_l, is_plain, digit_value, begins, begins_with, every, Run}
+use Rattle.c_lex.specs.Classes.{is_digit, is_octal, is_hex, is_u, is_l, is_plain, digit_value, begins, begins_with, Run}
 
 -- ---- words
 

@@ -1,5 +1,5 @@
 -- Where a byte stands, from the bytes before it.
-use Rattle.std.specs.Prelude.{ℕ, ◌+◌, Bool, true, false, ◌&&◌, ◌==◌, List, [], ◌∷◌, if◌then◌else◌}
+use Rattle.std.specs.Prelude.{ℕ, ◌+◌, true, ◌&&◌, ◌==◌, List, [], ◌∷◌, if◌then◌else◌}
 use Rattle.cm_base.specs.declared.place.Place.{Place}
 use Rattle.c_lex.specs.declared.spot.Spot.{Spot}
 use Rattle.c_lex.specs.Classes.{is_blank}

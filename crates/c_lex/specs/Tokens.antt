@@ -1,5 +1,5 @@
--- The tokens of a text, and its first fault (C11 5.1.1.2 phases 2 and 3, 6.4).
-use Rattle.std.specs.Prelude.{◌≡◌, ◌≢◌, ℕ, suc, ◌+◌, ◌-◌, ◌*◌, ◌<◌, ◌≤◌, ◌^◌, Bool, true, false, not, ◌&&◌, ◌||◌, nat_le, ◌==◌, List, [], ◌∷◌, ◌++◌, length, take, codes, Option, Some, None}
+-- The tokens of a text, and its first fault (C11 5.1.1.2 phase 3, 6.4, with the profile of this language).
+use Rattle.std.specs.Prelude.{◌≡◌, ◌≢◌, ℕ, ◌-◌, ◌<◌, ◌≤◌, ◌^◌, Bool, true, false, ◌&&◌, ◌||◌, nat_le, ◌==◌, List, [], ◌∷◌, ◌++◌, length, take, codes, Option, Some, None}
 use Rattle.cm_base.specs.declared.place.Place.{Place}
 use Rattle.c_lex.specs.declared.spot.Spot.{Spot}
 use Rattle.c_lex.specs.declared.token.Kind.{Kind}
@@ -9,7 +9,7 @@ use Rattle.c_lex.specs.declared.token.Punct.{Punct}
 use Rattle.c_lex.specs.declared.token.Header.{Header}
 use Rattle.c_lex.specs.declared.token.Token.{Token}
 use Rattle.c_lex.specs.declared.words.LeftOut.{LeftOut}
-use Rattle.c_lex.specs.Classes.{is_letter, is_digit, is_name_byte, is_blank, is_space, is_in_line, is_stray, begins, begins_with, every, Run}
+use Rattle.c_lex.specs.Classes.{is_letter, is_name_byte, is_blank, is_space, is_in_line, is_stray, begins, begins_with, every, Run}
 use Rattle.c_lex.specs.Spot.{start, after, place_of}
 use Rattle.c_lex.specs.Spelling.{word_text, left_out_text, IsNoWord, mark_text, IsLongest, header_text, Digits, value_of, suffix_of, begins_long_long, Item, Items, IsCut}
 
@@ -46,7 +46,9 @@ abbrev pub number_kind : ℕ → Bool × Bool → Kind
 number_kind v s = kind.Number v (s.0 || nat_le (2 ^ 31) v) s.1
 
 -- Spelled fresh text k rest: the spelling of k stands at the front of the text, no byte of the rest could make it longer,
--- and then comes the rest. fresh: the front is the first of its line but for blanks.
+-- and then comes the rest. fresh: the front is the first of its line but for blanks. A name and a number end before what is
+-- no letter, digit or _; a number without a suffix not before a point; a mark is the longest that stands there, and begins
+-- no comment; a literal ends with its quote, and an include before the end of its line.
 pub data Spelled (fresh : Bool) (text : List ℕ) : Kind → List ℕ → Type 0 where
   name : {s rest : List ℕ} → begins is_letter text ≡ true → Run is_name_byte s rest text → IsNoWord s → length s ≤ 255 → Spelled fresh text (kind.Name s) rest
   word : {s rest : List ℕ} {w : Keyword} → begins is_letter text ≡ true → Run is_name_byte s rest text → s ≡ word_text w → Spelled fresh text (kind.Word w) rest
@@ -111,6 +113,8 @@ abbrev pub E06 : ℕ
 E06 = 6
 
 -- No piece stands at the front of the text: a fault with this code, where this many bytes of the text are left.
+-- A literal is bad where no item and no closing quote stands, unless the text ends there; where the end of the text cuts it,
+-- the fault is at its first byte. At a number the value is looked at first, then ll and the point, then the byte behind it.
 pub data Faulty (fresh : Bool) (text : List ℕ) : ℕ → ℕ → Type 0 where
   stray : {b : ℕ} {rest : List ℕ} → text ≡ b ∷ rest → is_stray b ≡ true → Faulty fresh text E01 (length text)
   long_name : {s rest : List ℕ} → begins is_letter text ≡ true → Run is_name_byte s rest text → IsNoWord s → 255 < length s → Faulty fresh text E01 (length text)

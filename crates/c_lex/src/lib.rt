@@ -16,3 +16,6 @@ pub mod token;
 mod words;
 
 pub use lexer::{LexFault, MAX_SOURCE, lex};
+
+#[cfg(test)]
+mod tests;

@@ -1,6 +1,6 @@
 use Rattle.std.proofs.Common.{Some, drop, ap, sym, ◌∙◌, List, ℕ}
 use Rattle.std.proofs.lemmas.List.{take_rest}
-use Rattle.c_lex.specs.Reading.{close_at, closes_here}
+use Rattle.c_lex.specs.Reading.{closes_here}
 use Rattle.c_lex.proofs.Closing.{close_found, close_next}
 use Rattle.c_lex.proofs.comments.close_at.Goals as goal
 

@@ -1,4 +1,4 @@
-use Rattle.std.proofs.Common.{◌≡◌, subst, sym, ap, ◌∙◌, arith}
+use Rattle.std.proofs.Common.{subst, sym, ap, ◌∙◌}
 use Rattle.cm_base.specs.declared.place.Place.{Place}
 use Rattle.c_lex.specs.Spot.{place_of}
 use Rattle.c_lex.specs.Tokens.{FirstFault, too_long}

@@ -1,6 +1,4 @@
-use Rattle.std.proofs.Common.{arith, sym, ◌∙◌, rules}
 use Rattle.std.proofs.lemmas.Result.{err_from_is_err_and}
-use Rattle.c_lex.specs.Reading.{string_at}
 use Rattle.c_lex.proofs.Strings.{string_ends, string_goes, string_fails, string_done}
 use Rattle.c_lex.proofs.literals.string_at.Goals as goal
 
