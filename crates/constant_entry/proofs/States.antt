@@ -1,0 +1,56 @@
+-- The states that the pieces of the code lead to.
+use Rattle.std.specs.Prelude.{ℕ, bit_and}
+use Rattle.ns_types.specs.State.{State}
+use Rattle.ns_types.specs.Platform.{aligned}
+use Rattle.ns_types.specs.Memory.{word_at, store}
+use Rattle.v8m_core.specs.Code.{past}
+use Rattle.constant_entry.specs.Code.{stacks_code, hand_code, entry_front}
+
+-- behind the stacks and seals
+abbrev pub sealed : State → State
+sealed s = record {
+  cpu = record s.cpu {
+    regs = record s.cpu.regs { r0 = 805408768; r1 = 805306368; r2 = 4277530021 };
+    pc = past s.cpu.pc stacks_code;
+    psp = 805408760;
+    msplim = 805371904;
+    psplim = 805404672;
+  };
+  memory = store 4 805408768 805306368 (store 4 805404668 4277530021 (store 4 805404664 4277530021 (store 4 805408764 4277530021 (store 4 805408760 4277530021 s.memory))));
+}
+
+-- at the BXNS of the start code
+abbrev pub handing : State → State
+handing s = record s {
+  cpu = record s.cpu {
+    regs = record s.cpu.regs {
+      r0 = 0;
+      r1 = 0;
+      r2 = 0;
+      r3 = 0;
+      r4 = 0;
+      r5 = 0;
+      r6 = 0;
+      r7 = 0;
+      r8 = 0;
+      r9 = 0;
+      r10 = 0;
+      r11 = 0;
+      r12 = 0;
+      lr = bit_and (word_at s.memory.ns_rom 4) 4294967294;
+    };
+    pc = past s.cpu.pc hand_code;
+    nzcvq = 0;
+    msp_ns = aligned 4 (word_at s.memory.ns_rom 0);
+  };
+}
+
+-- at the BXNS of the entry
+abbrev pub answering : ℕ → State → State
+answering n s = record s {
+  cpu = record s.cpu {
+    regs = record s.cpu.regs { r0 = n; r1 = 0; r2 = 0; r3 = 0; r12 = 0 };
+    pc = past s.cpu.pc (entry_front n);
+    nzcvq = 0;
+  };
+}

@@ -1,0 +1,51 @@
+-- What the machine shows of a program whose one entry gives a number.
+use Rattle.std.specs.Prelude.{◌≡◌, ℕ, ◌+◌, ◌%◌, eqb, ◌⊎◌, true, List, [], ◌∷◌}
+use Rattle.ns_types.specs.declared.event.Event.{Event}
+use Rattle.ns_types.specs.declared.event.Event.TheVariants as event
+use Rattle.ns_types.specs.declared.event.End.TheVariants as end
+use Rattle.ns_types.specs.declared.turn.Turn.{Turn}
+use Rattle.ns_types.specs.declared.turn.Start.{Start}
+use Rattle.ns_types.specs.declared.turn.View.{View}
+use Rattle.ns_types.specs.Platform.{row, is_nonsecure}
+use Rattle.ns_types.specs.Memory.{word_at}
+use Rattle.ns_types.specs.Boundary.{view, in_four, start_mark, turn_mark}
+use Rattle.v8m_core.specs.Step.{is_gateway}
+use Rattle.v8m_core.specs.Code.{HasCode}
+use Rattle.ns_turns.specs.Run.{machine_run}
+use Rattle.ns_turns.specs.Prefix.{IsFront}
+use Rattle.constant_entry.specs.Code.{start_code, entry_code, gateway_code, start_place, entry_place}
+
+-- the address of the first veneer
+abbrev pub first_veneer : ℕ
+first_veneer = (row 3).from
+
+-- Secure ROM holds the program
+pub record GivesConstant (rom : List ℕ) (n : ℕ) : Type 0 where
+  pub stack : word_at rom 0 ≡ 805404664
+  pub reset : word_at rom 4 ≡ start_place + 1
+  pub start : HasCode rom start_place start_code
+  pub gateway : HasCode rom first_veneer gateway_code
+  pub entry : HasCode rom entry_place (entry_code n)
+  pub alone : (a : ℕ) → a % 2 ≡ 0 → is_gateway rom a ≡ eqb a first_veneer
+
+-- a turn without items that calls the first entry and gives it a place in Non-secure memory to go back to
+pub record CallsFirst (t : Turn) : Type 0 where
+  pub items : t.items ≡ []
+  pub target : (t.target ≡ first_veneer) ⊎ (t.target ≡ first_veneer + 1)
+  pub back : is_nonsecure t.lr ≡ true
+
+-- the views of the start and of a result
+abbrev pub started_view : Start → View
+started_view start = let m = start_mark start in view (in_four []) m.kept 0 m.exit m.exit m
+
+abbrev pub result_view : Turn → ℕ → View
+result_view t n = let m = turn_mark t in view (in_four (n ∷ [])) m.kept 0 m.exit m.exit m
+
+abbrev pub two_views : Start → Turn → ℕ → List Event
+two_views start t n = event.Given (started_view start) ∷ event.Given (result_view t n) ∷ []
+
+-- For every start that begins in Non-secure memory, every such turn and every number of steps the events are a front
+-- of the two views, and for some number they are both, and the machine waits for the next turn.
+pub record ShowsConstant (rom : List ℕ) (n : ℕ) : Type 0 where
+  pub front : (start : Start) (t : Turn) (k : ℕ) → is_nonsecure (word_at start.ns_rom 4) ≡ true → CallsFirst t → IsFront (machine_run rom start (t ∷ []) k).list (two_views start t n)
+  pub both : (start : Start) (t : Turn) → is_nonsecure (word_at start.ns_rom 4) ≡ true → CallsFirst t → (k : ℕ) × (machine_run rom start (t ∷ []) k ≡ record { list = two_views start t n; end = end.Waiting })

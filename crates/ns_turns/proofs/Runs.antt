@@ -1,0 +1,57 @@
+-- What a run makes of a step, by who runs.
+use Rattle.std.proofs.Common.{◌≡◌, ℕ, zero, suc, ◌+◌, ◌-◌, ◌<◌, ◌≤◌, List, [], ◌∷◌, ◌++◌, length, refl, sym, ap, ◌∙◌, arith, append_assoc, Result, Ok, Err}
+use Rattle.std.proofs.lemmas.List.{append-nil}
+use Rattle.cm_base.specs.declared.stop.Stop.{Stop}
+use Rattle.ns_types.specs.declared.event.Event.{Event}
+use Rattle.ns_types.specs.declared.event.End.{End}
+use Rattle.ns_types.specs.declared.event.End.TheVariants as end
+use Rattle.ns_types.specs.declared.event.Events.{Events}
+use Rattle.ns_types.specs.declared.state.Side.TheVariants.{Secure, NonSecure, Stopped}
+use Rattle.ns_types.specs.declared.turn.Turn.{Turn}
+use Rattle.ns_types.specs.State.{State}
+use Rattle.v8m_core.specs.declared.stepped.Stepped.{Stepped}
+use Rattle.v8m_core.specs.Step.{Done, step_of, turn_of}
+use Rattle.ns_turns.specs.Run.{after, ends, next_of, run_of}
+use Rattle.ns_turns.specs.Advance.{Advances, behind, then_rest}
+
+pub run_stopped : (rom : List ℕ) (n : ℕ) (ts : List Turn) (s : State) (x : Stop) → s.cpu.side ≡ Stopped x → run_of rom (suc n) ts s ≡ ends end.Stopped
+unfolding run_of
+run_stopped rom n ts s x e = rw e refl
+
+pub run_secure : (rom : List ℕ) (n : ℕ) (ts : List Turn) (s : State) (d : Done) → s.cpu.side ≡ Secure → step_of rom s ≡ d → run_of rom (suc n) ts s ≡ after d (run_of rom n ts d.state)
+unfolding run_of
+run_secure rom n ts s d e step = rw (step, e) refl
+
+pub run_waits : (rom : List ℕ) (n : ℕ) (ts : List Turn) (s : State) → s.cpu.side ≡ NonSecure → ts ≡ [] → run_of rom (suc n) ts s ≡ ends end.Waiting
+unfolding run_of
+run_waits rom n ts s e none = rw (e, none) refl
+
+pub run_turn : (rom : List ℕ) (n : ℕ) (ts rest : List Turn) (t : Turn) (s : State) (d : Done) → s.cpu.side ≡ NonSecure → ts ≡ t ∷ rest → turn_of rom t s ≡ d → run_of rom (suc n) ts s ≡ after d (run_of rom n rest d.state)
+unfolding run_of
+run_turn rom n ts rest t s d e more turn =
+    let play = λ (u : Turn) (us : List Turn). after (turn_of rom u s) (run_of rom n us (turn_of rom u s).state) in
+    let step = after (step_of rom s) (run_of rom n ts (step_of rom s).state) in
+    ap (λ x. next_of ends play step x ts) e ∙ ap (λ us. next_of ends play step NonSecure us) more ∙ ap (λ x. after x (run_of rom n rest x.state)) turn
+
+pub spent_turn : (rom : List ℕ) (ts : List Turn) (s : State) → s.cpu.side ≡ NonSecure → 0 < length ts → ends end.Spent ≡ run_of rom 0 ts s
+unfolding run_of
+spent_turn rom [] s e lt = absurd (omega arith)
+spent_turn rom (t ∷ ts) s e lt = rw e refl
+
+-- a run that ends before a step
+pub behind_end : (list : List Event) (e : End) → record { list = list; end = e } ≡ behind list (ends e)
+behind_end list e = ap (λ l. record { list = l; end = e }) (sym (append-nil list))
+
+-- a run that goes on behind events, by one step of it
+pub run_more : (rom rom' : List ℕ) (n i : ℕ) (ts ts' : List Turn) (s s' : State) (list : List Event) (r : Result Stepped End) (whole : Events) → i < n → rom' ≡ rom → whole ≡ behind list (run_of rom (n - i) ts s) → Advances rom' ts s r ts' s' → whole ≡ behind list (then_rest r (run_of rom (n - (i + 1)) ts' s'))
+run_more rom rom' n i ts ts' s s' list r whole lt same so_far step =
+    let count : n - i ≡ suc (n - (i + 1)) = omega arith in
+    so_far
+    ∙ ap (λ k. behind list (run_of rom k ts s)) count
+    ∙ ap (λ x. behind list (run_of x (suc (n - (i + 1))) ts s)) (sym same)
+    ∙ ap (behind list) (step (n - (i + 1)))
+    ∙ ap (λ x. behind list (then_rest r (run_of x (n - (i + 1)) ts' s'))) same
+
+-- events of one step more
+pub behind_more : (list : List Event) (more : List Event) (rest : Events) → behind list (behind more rest) ≡ behind (list ++ more) rest
+behind_more list more rest = ap (λ l. record { list = l; end = rest.end }) (sym (append_assoc list more rest.list))

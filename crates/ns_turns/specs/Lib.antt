@@ -1,0 +1,4 @@
+pub mod Run
+pub mod Prefix
+pub mod Refines
+pub mod Advance

@@ -1,0 +1,86 @@
+-- The machine does what a program does, and shows the caller exactly what the program shows.
+use Rattle.std.specs.Prelude.{◌≡◌, ◌≢◌, ℕ, ◌<◌, ◌≤◌, ◌⊎◌, min, Bool, true, false, not, ◌&&◌, List, [], ◌∷◌, ◌++◌, Option}
+use Rattle.cm_base.specs.declared.stop.Stop.{Stop}
+use Rattle.cm_base.specs.declared.stop.Stop.TheVariants.{Divide, Outside, Misaligned, DataStack, CallTarget, EntryPoint, Access, ReturnFault, Astray, StackLimit, Undefined, Unaligned, Unmapped, BadState}
+use Rattle.ns_types.specs.declared.event.Event.{Event}
+use Rattle.ns_types.specs.declared.event.Event.TheVariants as event
+use Rattle.ns_types.specs.declared.event.End.TheVariants as end
+use Rattle.ns_types.specs.declared.event.Events.{Events}
+use Rattle.ns_types.specs.declared.event.Bound.{Bound}
+use Rattle.ns_types.specs.declared.turn.Turn.{Turn}
+use Rattle.ns_types.specs.declared.turn.Start.{Start}
+use Rattle.ns_types.specs.CRun.{Run}
+use Rattle.ns_types.specs.Show.{show, events_shown}
+use Rattle.v8m_mem.specs.Rows.{IsStart}
+use Rattle.ns_turns.specs.Run.{machine_run}
+use Rattle.ns_turns.specs.Prefix.{IsFront}
+
+-- what the caller sees of a run
+abbrev pub seen_of : (ℕ → Option ℕ) → Run → List Event
+seen_of enters run = events_shown (show enters run.list)
+
+-- The machine's events are exactly what the run shows, and it ends as the run does. Where the bound of the run is
+-- used up the machine has done at least so many steps.
+pub record Same (m : Events) (seen : List Event) (run : Run) (least n : ℕ) : Type 0 where
+  pub list : m.list ≡ seen
+  pub ended : run.end ≢ end.Spent → m.end ≡ run.end
+  pub spent : run.end ≡ end.Spent → (m.end ≡ end.Spent) × (least ≤ n)
+
+-- The machine has no room left on its stack, after a front of what the run shows, and the run needs more than there is.
+pub record OutOfRoom (m : Events) (seen : List Event) (run : Run) (room : ℕ) : Type 0 where
+  pub before : List Event
+  pub list : m.list ≡ before ++ event.Stopped StackLimit ∷ []
+  pub front : IsFront before seen
+  pub end : m.end ≡ end.Stopped
+  pub need : room < run.peak
+
+-- the bytes of the main stack below its seal
+abbrev pub room : ℕ
+room = 32760
+
+-- For every start, list of turns and bound there is a number of steps after which the machine has shown what the run
+-- shows, or is out of room.
+abbrev pub Refines : List ℕ → (ℕ → Option ℕ) → (Start → List Turn → Bound → Run) → Type 0
+Refines rom enters run =
+    (start : Start) → IsStart start → (ts : List Turn) (b : Bound) → (n : ℕ) × (Same (machine_run rom start ts n) (seen_of enters (run start ts b)) (run start ts b) (min b.turns b.deep) n ⊎ OutOfRoom (machine_run rom start ts n) (seen_of enters (run start ts b)) (run start ts b) room)
+
+-- the stops that only a machine has
+abbrev pub is_machine_stop : Stop → Bool
+is_machine_stop StackLimit = true
+is_machine_stop Undefined = true
+is_machine_stop Unaligned = true
+is_machine_stop Unmapped = true
+is_machine_stop BadState = true
+is_machine_stop Divide = false
+is_machine_stop Outside = false
+is_machine_stop Misaligned = false
+is_machine_stop DataStack = false
+is_machine_stop CallTarget = false
+is_machine_stop EntryPoint = false
+is_machine_stop Access = false
+is_machine_stop ReturnFault = false
+is_machine_stop Astray = false
+
+abbrev pub is_clean_event : Event → Bool
+is_clean_event (event.Given v) = true
+is_clean_event (event.Wrote at size value) = true
+is_clean_event (event.Stopped x) = not (is_machine_stop x)
+
+-- no stop that only a machine has
+abbrev pub is_clean : List Event → Bool
+is_clean [] = true
+is_clean (e ∷ es) = is_clean_event e && is_clean es
+
+-- What the machine has shown after some steps is a front of what the run shows, without a stop of its own but a last
+-- one for want of stack, where the run needs more than there is. Where the machine waits, so does the run.
+pub record OnlyShows (m : Events) (seen : List Event) (run : Run) : Type 0 where
+  pub before : List Event
+  pub list : (m.list ≡ before) ⊎ ((m.list ≡ before ++ event.Stopped StackLimit ∷ []) × (room < run.peak))
+  pub front : IsFront before seen
+  pub clean : is_clean before ≡ true
+  pub waits : m.end ≡ end.Waiting → (run.end ≡ end.Waiting) × (m.list ≡ seen)
+
+-- For every start, list of turns and number of steps there is such a bound.
+abbrev pub Only : List ℕ → (ℕ → Option ℕ) → (Start → List Turn → Bound → Run) → Type 0
+Only rom enters run =
+    (start : Start) → IsStart start → (ts : List Turn) (n : ℕ) → (b : Bound) × OnlyShows (machine_run rom start ts n) (seen_of enters (run start ts b)) (run start ts b)

@@ -1,0 +1,49 @@
+//! What the Non-secure caller sets and sees.
+
+use cm_base::{Bytes, List};
+
+/// What memory holds when the device is reset.
+#[derive(Debug, Drop)]
+pub struct Start {
+    /// Secure data and Secure control, 106,496 bytes from 30000000.
+    pub secure_ram: Bytes,
+    /// Non-secure RAM, 131,072 bytes from 20000000.
+    pub ns_ram: Bytes,
+    /// Non-secure ROM, 262,144 bytes from 00000000.
+    pub ns_rom: Bytes,
+}
+
+/// A memory access of Non-secure code.
+#[derive(Clone, Copy, Debug, PartialEq, Eq)]
+pub enum Item {
+    Write { at: u32, byte: u8 },
+    Read { at: u32 },
+}
+
+/// One Non-secure turn: the caller sets its registers, its items act in order, and it branches to the target.
+#[derive(Debug, Drop)]
+pub struct Turn {
+    /// r0 to r12.
+    pub r: [u32; 13],
+    pub lr: u32,
+    /// The flags, at most 31: N 16, Z 8, C 4, V 2, Q 1.
+    pub nzcvq: u8,
+    /// The Non-secure stack pointers, which lose their low two bits.
+    pub msp_ns: u32,
+    pub psp_ns: u32,
+    pub items: List<Item>,
+    pub target: u32,
+}
+
+/// All that Non-secure code sees of the registers where Secure code hands over.
+#[derive(Clone, Copy, Debug, PartialEq, Eq)]
+pub struct View {
+    /// r0 to r12.
+    pub r: [u32; 13],
+    pub lr: u32,
+    pub pc: u32,
+    /// The flags: N 16, Z 8, C 4, V 2, Q 1.
+    pub nzcvq: u8,
+    pub msp_ns: u32,
+    pub psp_ns: u32,
+}

@@ -1,0 +1,157 @@
+-- Runs of code in Secure ROM.
+use Rattle.std.proofs.Common.{◌≡◌, ◌≢◌, ℕ, zero, suc, ◌+◌, ◌-◌, ◌*◌, ◌<◌, ◌≤◌, ◌⊎◌, Bool, true, false, cond, List, [], ◌∷◌, ◌++◌, length, refl, sym, ap, ◌∙◌, subst, ⊎_elim, inl, inr, arith, Option, Some, None}
+use Rattle.std.specs.Prelude.{◌%◌, ◌&&◌, not, eqb, ltb}
+use Rattle.cm_base.specs.declared.stop.Stop.{Stop}
+use Rattle.cm_base.specs.declared.stop.Stop.TheVariants as stop
+use Rattle.v8m_isa.specs.declared.instr.Instr.{Instr}
+use Rattle.v8m_isa.specs.Table.{Decoded, in_range_of, size_of, code_of, decode_of, is_narrow}
+use Rattle.v8m_isa.proofs.Laws.{decode_of-code_of, decode_of-code_of_narrow, is_narrow-code_of, size_of_two_or_four}
+use Rattle.ns_types.specs.declared.goes.Goes.{Goes}
+use Rattle.ns_types.specs.declared.goes.Goes.TheVariants as goes
+use Rattle.ns_types.specs.declared.state.Cpu.{Cpu}
+use Rattle.ns_types.specs.declared.state.Side.TheVariants.{Secure}
+use Rattle.ns_types.specs.State.{State}
+use Rattle.ns_types.specs.Platform.{is_in_rom, aligned, in_row}
+use Rattle.v8m_core.specs.declared.stepped.Stepped.{Stepped}
+use Rattle.v8m_core.specs.declared.stepped.Stepped.TheVariants as what
+use Rattle.v8m_core.specs.declared.effect.Effect.{Effect}
+use Rattle.v8m_core.specs.declared.effect.Effect.TheVariants as effect
+use Rattle.v8m_core.specs.Step.{Done, went, stopped, unless, fetched, goes_in, seen, arrived, entered, handed, returned, return_stop, return_to, bxns, effect_of, pass, put, write_register, load_stop, store_stop, stored, special, apply, act, act_or, step_of}
+use Rattle.v8m_core.specs.Code.{Holds, HasCode, past, Comes, Follows, Does}
+
+-- decoding what was encoded
+decode-narrow : (i : Instr) → in_range_of i ≡ true → size_of i ≡ 2 → (is_narrow (code_of i).first ≡ true) × (decode_of (code_of i).first 0 ≡ Some (record { instr = i; size = 2 }))
+decode-narrow i r s =
+    (is_narrow-code_of i r ∙ ap (λ n. eqb n 2) s, decode_of-code_of_narrow i 0 r s (omega arith) ∙ ap (λ n. let d : Decoded = record { instr = i; size = n } in Some d) s)
+
+decode-wide : (i : Instr) → in_range_of i ≡ true → size_of i ≢ 2 → (is_narrow (code_of i).first ≡ false) × (decode_of (code_of i).first (code_of i).second ≡ Some (record { instr = i; size = size_of i }))
+decode-wide i r s =
+    (is_narrow-code_of i r ∙ (let four : size_of i ≡ 4 = ⊎_elim (λ e. absurd (s e)) (λ e. e) (size_of_two_or_four i) in ap (λ n. eqb n 2) four), decode_of-code_of i r)
+
+-- a step at an instruction is that instruction's act
+pub does : (rom : List ℕ) (s : State) (i : Instr) → Holds rom s.cpu.pc i → step_of rom s ≡ act rom i (size_of i) s
+unfolding step_of
+does rom s i h =
+    let pc = s.cpu.pc in
+    let wide : Done = cond (is_in_rom (pc + 2)) (act_or rom (decode_of (fetched rom pc) (fetched rom (pc + 2))) s) (stopped stop.BadState s) in
+    let here : step_of rom s ≡ cond (is_narrow (code_of i).first) (act_or rom (decode_of (code_of i).first 0) s) (cond (is_in_rom (pc + 2)) (act_or rom (decode_of (code_of i).first (fetched rom (pc + 2))) s) (stopped stop.BadState s)) =
+      ap (λ t. cond t (cond (is_narrow (fetched rom pc)) (act_or rom (decode_of (fetched rom pc) 0) s) (cond (is_in_rom (pc + 2)) (act_or rom (decode_of (fetched rom pc) (fetched rom (pc + 2))) s) (stopped stop.BadState s))) (stopped stop.BadState s)) h.place
+      ∙ ap (λ a. cond (is_narrow a) (act_or rom (decode_of a 0) s) (cond (is_in_rom (pc + 2)) (act_or rom (decode_of a (fetched rom (pc + 2))) s) (stopped stop.BadState s))) h.first in
+    ⊎_elim
+    (λ two.
+      let d = decode-narrow i h.range two in
+      here
+      ∙ ap (λ t. cond t (act_or rom (decode_of (code_of i).first 0) s) (cond (is_in_rom (pc + 2)) (act_or rom (decode_of (code_of i).first (fetched rom (pc + 2))) s) (stopped stop.BadState s))) d.0
+      ∙ ap (λ o. act_or rom o s) d.1 ∙ ap (λ n. act rom i n s) (sym two))
+    (λ four.
+      let ne : size_of i ≢ 2 = λ e. omega arith in
+      let d = decode-wide i h.range ne in
+      let second = ⊎_elim {C = (is_in_rom (pc + 2) ≡ true) × (fetched rom (pc + 2) ≡ (code_of i).second)} (λ two. absurd (ne two)) (λ x. x) h.second in
+      here
+      ∙ ap (λ t. cond t (act_or rom (decode_of (code_of i).first 0) s) (cond (is_in_rom (pc + 2)) (act_or rom (decode_of (code_of i).first (fetched rom (pc + 2))) s) (stopped stop.BadState s))) d.0
+      ∙ ap (λ t. cond t (act_or rom (decode_of (code_of i).first (fetched rom (pc + 2))) s) (stopped stop.BadState s)) second.0
+      ∙ ap (λ b. act_or rom (decode_of (code_of i).first b) s) second.1
+      ∙ ap (λ o. act_or rom o s) d.1)
+    (size_of_two_or_four i)
+
+pub comes_on : (rom : List ℕ) (m n : ℕ) (s t u : State) → Comes rom m s t → Comes rom n t u → Comes rom (m + n) s u
+comes_on rom zero n s t u a b =
+    let e : n ≡ 0 + n = omega arith in
+    subst (λ k. Comes rom k s u) e (subst (λ x. Comes rom n x u) (sym a) b)
+comes_on rom (suc m) n s t u a b =
+    let e : suc (m + n) ≡ suc m + n = omega arith in
+    subst (λ k. Comes rom k s u) e (a.0, a.1, comes_on rom m n a.0 t u a.2 b)
+
+-- code in a row is executed
+pub straight : (rom : List ℕ) (is : List Instr) (s t : State) → HasCode rom s.cpu.pc is → Does rom is s t → Comes rom (length is) s t
+straight rom [] s t has d = d
+straight rom (i ∷ []) s t has d = (d.0, does rom s i has.0 ∙ d.1, d.3)
+straight rom (i ∷ j ∷ is) s t has d =
+    (d.0, does rom s i has.0 ∙ d.1, straight rom (j ∷ is) d.0 t (subst (λ p. HasCode rom p (j ∷ is)) (sym d.2) has.1) d.3)
+
+pub has_front : (rom : List ℕ) (pc : ℕ) (a b : List Instr) → HasCode rom pc (a ++ b) → HasCode rom pc a
+has_front rom pc [] b h = tt
+has_front rom pc (i ∷ a) b h = (h.0, has_front rom (pc + size_of i) a b h.1)
+
+pub has_back : (rom : List ℕ) (pc : ℕ) (a b : List Instr) → HasCode rom pc (a ++ b) → HasCode rom (past pc a) b
+has_back rom pc [] b h = h
+has_back rom pc (i ∷ a) b h = has_back rom (pc + size_of i) a b h.1
+
+-- A step of Secure code that goes on stays in Secure state.
+record Stays (d : Done) : Type 0 where
+  side : d.what ≡ what.Went → d.state.cpu.side ≡ Secure
+
+stays_stopped : (x : Stop) (s : State) → Stays (stopped x s)
+stays_stopped x s = record { side = λ e. cc }
+
+stays_went : (s : State) → s.cpu.side ≡ Secure → Stays (went s)
+stays_went s h = record { side = λ e. h }
+
+stays_unless : (o : Option Stop) (s : State) (d : Done) → Stays d → Stays (unless o s d)
+stays_unless None s d h = h
+stays_unless (Some x) s d h = stays_stopped x s
+
+stays_cond : (b : Bool) (d e : Done) → Stays d → Stays e → Stays (cond b d e)
+stays_cond true d e x y = x
+stays_cond false d e x y = y
+
+stays_return : (rom : List ℕ) (s : State) → Stays (return_to rom s)
+unfolding return_to
+stays_return rom s = stays_unless (return_stop rom s) s _ (stays_went _ refl)
+
+stays_arrived : (rom : List ℕ) (g : Goes) (a : ℕ) (show : Stepped) (s : State) → show ≢ what.Went → Stays (arrived rom g a show s)
+stays_arrived rom (goes.Enter e) a show s ne = stays_went _ refl
+stays_arrived rom goes.Return a show s ne = stays_return rom s
+stays_arrived rom goes.Turn a show s ne = record { side = λ e. absurd (ne e) }
+stays_arrived rom goes.EntryPoint a show s ne = stays_stopped stop.EntryPoint s
+stays_arrived rom goes.Astray a show s ne = stays_stopped stop.Astray s
+
+stays_bxns : (rom : List ℕ) (v : ℕ) (s : State) → s.cpu.side ≡ Secure → Stays (bxns rom v s)
+unfolding bxns
+stays_bxns rom v s h =
+    stays_cond _ _ _ (stays_return rom s)
+    (stays_cond _ _ _ (stays_arrived rom (goes_in rom v) v (what.Given (seen s.cpu v)) s (λ e. cc))
+    (stays_cond _ _ _ (stays_went _ h) (stays_stopped stop.BadState s)))
+
+record IsSecure (c : Cpu) : Type 0 where
+  by : c.side ≡ Secure
+
+secure_cond : (b : Bool) (c d : Cpu) → IsSecure c → IsSecure d → IsSecure (cond b c d)
+secure_cond true c d x y = x
+secure_cond false c d x y = y
+
+special_secure : (k v : ℕ) (c : Cpu) → c.side ≡ Secure → IsSecure (special k v c)
+special_secure k v c h =
+    secure_cond (eqb k 0) _ _ (record { by = h })
+    (secure_cond (eqb k 8) _ _ (record { by = h })
+    (secure_cond (eqb k 9) _ _ (record { by = h })
+    (secure_cond (eqb k 10) _ _ (record { by = h })
+    (secure_cond (eqb k 11) _ _ (record { by = h }) (secure_cond (eqb k 136) _ _ (record { by = h }) (record { by = h }))))))
+
+stays_apply : (rom : List ℕ) (e : Effect) (size : ℕ) (s : State) → s.cpu.side ≡ Secure → Stays (apply rom e size s)
+unfolding apply write_register
+stays_apply rom effect.Pass size s h = stays_went _ h
+stays_apply rom (effect.Stop x) size s h = stays_stopped x s
+stays_apply rom (effect.Put d v) size s h = stays_cond _ _ _ (stays_cond _ _ _ (stays_stopped stop.StackLimit s) (stays_went _ h)) (stays_went _ h)
+stays_apply rom (effect.Load t a n) size s h = stays_unless (load_stop a n) s _ (stays_went _ h)
+stays_apply rom (effect.Store a n v) size s h = stays_unless (store_stop a n) s _ (record { side = λ e. h })
+stays_apply rom (effect.Jump a) size s h = stays_went _ h
+stays_apply rom (effect.Special k v) size s h = stays_went _ ((special_secure k v (pass size s).cpu h).by)
+stays_apply rom (effect.Bxns v) size s h = stays_bxns rom v s h
+
+stays_act : (rom : List ℕ) (o : Option Decoded) (s : State) → s.cpu.side ≡ Secure → Stays (act_or rom o s)
+stays_act rom None s h = stays_stopped stop.Undefined s
+stays_act rom (Some d) s h = stays_apply rom (effect_of d.instr s.cpu) d.size s h
+
+stays_step : (rom : List ℕ) (s : State) → s.cpu.side ≡ Secure → Stays (step_of rom s)
+unfolding step_of
+stays_step rom s h =
+    let pc = s.cpu.pc in
+    stays_cond (is_in_rom pc) _ _
+    (stays_cond (is_narrow (fetched rom pc)) _ _ (stays_act rom (decode_of (fetched rom pc) 0) s h)
+    (stays_cond (is_in_rom (pc + 2)) _ _ (stays_act rom (decode_of (fetched rom pc) (fetched rom (pc + 2))) s h) (stays_stopped stop.BadState s)))
+    (stays_stopped stop.BadState s)
+
+pub stays : (rom : List ℕ) (s t : State) → s.cpu.side ≡ Secure → step_of rom s ≡ went t → t.cpu.side ≡ Secure
+stays rom s t h e =
+    sym (ap (λ (d : Done). d.state.cpu.side) e) ∙ (stays_step rom s h).side (ap (λ (d : Done). d.what) e)

@@ -1,0 +1,32 @@
+-- What a step is, by the halfwords that are fetched.
+use Rattle.std.proofs.Common.{◌≡◌, ◌≢◌, ℕ, ◌+◌, Bool, true, false, cond, List, refl, sym, ap, ◌∙◌, arith, Option, Some, None}
+use Rattle.std.specs.Prelude.{option_map, eqb}
+use Rattle.std.proofs.lemmas.Bool.Decides.{nat_tests}
+use Rattle.v8m_isa.specs.declared.instr.Instr.{Instr}
+use Rattle.v8m_isa.specs.Table.{Decoded, decode_of, is_narrow, is_of_two_bytes, pair_of}
+use Rattle.ns_types.specs.State.{State}
+use Rattle.ns_types.specs.Platform.{is_in_rom}
+use Rattle.v8m_core.specs.Step.{fetched, act, act_or, step_of, Done}
+
+-- what was decoded, by the pair that the code has
+pub read_none : (o : Option Decoded) → None ≡ option_map pair_of o → o ≡ None
+read_none None e = refl
+read_none (Some d) e = cc
+
+pub read_some : (o : Option Decoded) (i : Instr) (n : ℕ) → Some (i, n) ≡ option_map pair_of o → o ≡ Some (record { instr = i; size = n })
+read_some None i n e = cc
+read_some (Some d) i n e =
+    let p : (i, n) ≡ pair_of d = cc in
+    ap (λ q. Some (record { instr = q.0; size = q.1 })) (sym p)
+
+pub narrow_none : (first : ℕ) → decode_of first 0 ≡ None → is_narrow first ≡ false
+unfolding is_narrow
+narrow_none first e = ap is_of_two_bytes e
+
+pub narrow_not : (first : ℕ) (i : Instr) (n : ℕ) → decode_of first 0 ≡ Some (record { instr = i; size = n }) → n ≢ 2 → is_narrow first ≡ false
+unfolding is_narrow
+narrow_not first i n e ne = ap is_of_two_bytes e ∙ grind (arith, nat_tests)
+
+pub step_narrow : (rom : List ℕ) (s : State) (i : Instr) → is_in_rom s.cpu.pc ≡ true → decode_of (fetched rom s.cpu.pc) 0 ≡ Some (record { instr = i; size = 2 }) → step_of rom s ≡ act rom i 2 s
+unfolding step_of is_narrow
+step_narrow rom s i place e = rw (place, e) refl

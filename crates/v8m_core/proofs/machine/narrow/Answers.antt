@@ -1,0 +1,8 @@
+use Rattle.v8m_core.proofs.Steps.{narrow_none, narrow_not, read_none, read_some}
+use Rattle.v8m_core.proofs.machine.narrow.Goals as goal
+
+pub returns-in-None : goal.returns-in-None
+returns-in-None c = narrow_none c.args.first (read_none _ c.in-None.ensures.is)
+
+pub returns-else-size-eq2 : goal.returns-else-size-eq2
+returns-else-size-eq2 c = narrow_not c.args.first c.in-Some.instr c.in-Some.size (read_some _ _ _ c.in-Some.ensures.is) c.if-size-eq2.false

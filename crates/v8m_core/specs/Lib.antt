@@ -1,0 +1,4 @@
+pub mod Step
+pub mod Code
+pub mod Parts
+pub mod Reset

@@ -1,0 +1,232 @@
+-- One step of the machine: what is fetched, what an instruction does, and the gates between Secure and Non-secure state.
+use Rattle.std.specs.Prelude.{ℕ, suc, ◌+◌, ◌-◌, ◌*◌, ◌/◌, ◌%◌, Bool, true, false, cond, ◌&&◌, ◌||◌, not, eqb, ltb, leb, List, [], ◌∷◌, length, slice_index, Option, Some, None, bit_and}
+use Rattle.cm_base.specs.declared.stop.Stop.{Stop}
+use Rattle.cm_base.specs.declared.stop.Stop.TheVariants as stop
+use Rattle.v8m_isa.specs.declared.instr.Instr.{Instr}
+use Rattle.v8m_isa.specs.declared.instr.Instr.TheVariants.{Mov, Bxns, Udf, Sg, Movw, Movt, Bic, Ldr, Str, B, Msr}
+use Rattle.v8m_isa.specs.Table.{Decoded, decode_of, is_narrow}
+use Rattle.ns_types.specs.declared.goes.Goes.{Goes}
+use Rattle.ns_types.specs.declared.goes.Goes.TheVariants as goes
+use Rattle.ns_types.specs.declared.state.Cpu.{Cpu}
+use Rattle.ns_types.specs.declared.state.Regs.{Regs}
+use Rattle.ns_types.specs.declared.state.Side.TheVariants.{Secure, NonSecure, Stopped}
+use Rattle.ns_types.specs.declared.turn.View.{View}
+use Rattle.ns_types.specs.declared.turn.Turn.{Turn}
+use Rattle.ns_types.specs.State.{get_of, set_of, Memory, State}
+use Rattle.ns_types.specs.Platform.{row, in_row, lies_in, is_readable, is_writable, is_in_rom, aligned}
+use Rattle.ns_types.specs.Memory.{half_at, word_at, load, store}
+use Rattle.ns_types.specs.Boundary.{function_return, goes_of, acted, Acted}
+use Rattle.v8m_core.specs.declared.stepped.Stepped.{Stepped}
+use Rattle.v8m_core.specs.declared.stepped.Stepped.TheVariants as what
+use Rattle.v8m_core.specs.declared.effect.Effect.{Effect}
+use Rattle.v8m_core.specs.declared.effect.Effect.TheVariants as effect
+
+-- what a step leaves, and what it was
+pub record Done : Type 0 where
+  pub state : State
+  pub what : Stepped
+
+abbrev pub went : State → Done
+went s = record { state = s; what = what.Went }
+
+-- a stop changes the side alone
+abbrev pub stopped : Stop → State → Done
+stopped x s = record { state = record s { cpu = record s.cpu { side = Stopped x } }; what = what.Stopped x }
+
+abbrev pub unless : Option Stop → State → Done → Done
+unless None s d = d
+unless (Some x) s d = stopped x s
+
+abbrev pub sum32 : ℕ → ℕ → ℕ
+sum32 a b = (a + b) % 4294967296
+
+-- The gates (DDI0553: SG, BXNS, function return)
+
+-- the halfword of Secure ROM at an address
+abbrev pub fetched : List ℕ → ℕ → ℕ
+fetched rom a = half_at rom (a - (row 2).from)
+
+-- a Secure gateway stands at an address: SG within the Non-secure callable region
+unfoldable pub is_gateway : List ℕ → ℕ → Bool
+is_gateway rom a = lies_in 3 a 4 && (eqb (fetched rom a) 59775 && eqb (fetched rom (a + 2)) 59775)
+
+abbrev pub gateway_at : List ℕ → ℕ → Option ℕ
+gateway_at rom a = cond (is_gateway rom a) (Some a) None
+
+unfoldable pub goes_in : List ℕ → ℕ → Goes
+goes_in rom t = goes_of (gateway_at rom) t
+
+-- all that Non-secure code sees of the registers
+abbrev pub seen : Cpu → ℕ → View
+seen c pc =
+    let r = c.regs in
+    record {
+      r = r.r0 ∷ r.r1 ∷ r.r2 ∷ r.r3 ∷ r.r4 ∷ r.r5 ∷ r.r6 ∷ r.r7 ∷ r.r8 ∷ r.r9 ∷ r.r10 ∷ r.r11 ∷ r.r12 ∷ [];
+      lr = r.lr;
+      pc = pc;
+      nzcvq = c.nzcvq;
+      msp_ns = c.msp_ns;
+      psp_ns = c.psp_ns;
+    }
+
+-- entering by the gateway at e: LR loses bit 0, and the instruction behind SG is next
+abbrev pub entered : ℕ → State → State
+entered e s = record s { cpu = record s.cpu { side = Secure; regs = record s.cpu.regs { lr = aligned 2 s.cpu.regs.lr }; pc = e + 4 } }
+
+-- handing over to Non-secure code at an address
+abbrev pub handed : ℕ → State → State
+handed a s = record s { cpu = record s.cpu { side = NonSecure; pc = a } }
+
+-- going back to Secure code at an address, with the two words at SP taken
+abbrev pub returned : ℕ → State → State
+returned a s = record s { cpu = record s.cpu { side = Secure; regs = record s.cpu.regs { sp = s.cpu.regs.sp + 8 }; pc = a } }
+
+-- Why a function return stops, if it does, in the order of its tests: SP, the two words, the low nine bits of
+-- the second word, the place of the first.
+unfoldable pub return_stop : List ℕ → State → Option Stop
+return_stop rom s =
+    let sp = s.cpu.regs.sp in
+    cond (not (eqb (sp % 8) 0)) (Some stop.BadState)
+    (cond (not (is_readable sp 4 && is_readable (sp + 4) 4)) (Some stop.Unmapped)
+    (cond (not (eqb (load 4 (sp + 4) rom s.memory % 512) 0)) (Some stop.ReturnFault)
+    (cond (not (is_in_rom (aligned 2 (load 4 sp rom s.memory)))) (Some stop.BadState) None)))
+
+unfoldable pub return_to : List ℕ → State → Done
+return_to rom s = unless (return_stop rom s) s (went (returned (aligned 2 (load 4 s.cpu.regs.sp rom s.memory)) s))
+
+-- A branch in Non-secure state, or from Secure to Non-secure state, to an address: show says what a hand-over is.
+abbrev pub arrived : List ℕ → Goes → ℕ → Stepped → State → Done
+arrived rom (goes.Enter e) a show s = went (entered e s)
+arrived rom goes.Return a show s = return_to rom s
+arrived rom goes.Turn a show s = record { state = handed a s; what = show }
+arrived rom goes.EntryPoint a show s = stopped stop.EntryPoint s
+arrived rom goes.Astray a show s = stopped stop.Astray s
+
+-- BXNS (DDI0553, BXNS): a function return; or with bit 0 set a branch in Secure state; or Non-secure state
+unfoldable pub bxns : List ℕ → ℕ → State → Done
+bxns rom v s =
+    cond (eqb (aligned 2 v) function_return) (return_to rom s)
+    (cond (eqb (v % 2) 0) (arrived rom (goes_in rom v) v (what.Given (seen s.cpu v)) s)
+    (cond (is_in_rom (v - 1)) (went (record s { cpu = record s.cpu { pc = v - 1 } })) (stopped stop.BadState s)))
+
+-- What each instruction does
+
+-- the stop of UDF by its number
+abbrev pub udf_stop : ℕ → Stop
+udf_stop i =
+    cond (eqb i 1) stop.Divide (cond (eqb i 2) stop.Outside (cond (eqb i 3) stop.Misaligned (cond (eqb i 4) stop.DataStack (cond (eqb i 5) stop.CallTarget stop.Undefined))))
+
+-- row by row of the instruction table, from the registers and the flags
+unfoldable pub effect_of : Instr → Cpu → Effect
+effect_of (Mov d m) c = effect.Put d (get_of c.regs m)
+effect_of (Bxns m) c = effect.Bxns (get_of c.regs m)
+effect_of (Udf i) c = effect.Stop (udf_stop i)
+effect_of Sg c = effect.Pass
+effect_of (Movw d i) c = effect.Put d i
+effect_of (Movt d i) c = effect.Put d (65536 * i + get_of c.regs d % 65536)
+effect_of (Bic d n m) c = effect.Put d (bit_and (get_of c.regs n) (4294967295 - get_of c.regs m))
+effect_of (Ldr t n i) c = effect.Load t (sum32 (get_of c.regs n) i) 4
+effect_of (Str t n i) c = effect.Store (sum32 (get_of c.regs n) i) 4 (get_of c.regs t)
+effect_of (B off) c = effect.Jump (sum32 (c.pc + 4) off)
+effect_of (Msr s n) c = effect.Special s (get_of c.regs n)
+
+-- the next instruction
+abbrev pub pass : ℕ → State → State
+pass size s = record s { cpu = record s.cpu { pc = s.cpu.pc + size } }
+
+abbrev pub put : ℕ → ℕ → ℕ → State → State
+put size d v s = record s { cpu = record s.cpu { regs = set_of s.cpu.regs d v; pc = s.cpu.pc + size } }
+
+-- a write of a register; SP (register 13) loses its low two bits, and may not go below MSPLIM
+unfoldable pub write_register : ℕ → ℕ → ℕ → State → Done
+write_register size d v s = cond (eqb d 13) (cond (ltb v s.cpu.msplim) (stopped stop.StackLimit s) (went (put size 13 (aligned 4 v) s))) (went (put size d v s))
+
+-- why a load and a store of Secure code stop, if they do
+unfoldable pub load_stop : ℕ → ℕ → Option Stop
+load_stop a size = cond (not (eqb (a % size) 0)) (Some stop.Unaligned) (cond (is_readable a size) None (Some stop.Unmapped))
+
+unfoldable pub store_stop : ℕ → ℕ → Option Stop
+store_stop a size = cond (not (eqb (a % size) 0)) (Some stop.Unaligned) (cond (is_writable a size) None (Some stop.Unmapped))
+
+-- a store is seen where it writes Non-secure RAM
+abbrev pub stored : ℕ → ℕ → ℕ → ℕ → State → Done
+stored step a size v s = record {
+  state = record (pass step s) { memory = store size a v s.memory };
+  what = cond (in_row 1 a) (what.Wrote a size v) what.Went;
+}
+
+-- MSR by the number of the special register: a stack pointer loses its low two bits, and a limit its low three
+abbrev pub special : ℕ → ℕ → Cpu → Cpu
+special k v c =
+    cond (eqb k 0) (record c { nzcvq = v / 134217728 % 32 })
+    (cond (eqb k 8) (record c { regs = record c.regs { sp = aligned 4 v } })
+    (cond (eqb k 9) (record c { psp = aligned 4 v })
+    (cond (eqb k 10) (record c { msplim = aligned 8 v })
+    (cond (eqb k 11) (record c { psplim = aligned 8 v })
+    (cond (eqb k 136) (record c { msp_ns = aligned 4 v }) (record c { psp_ns = aligned 4 v }))))))
+
+-- an effect on the state, of an instruction of this size
+unfoldable pub apply : List ℕ → Effect → ℕ → State → Done
+apply rom effect.Pass size s = went (pass size s)
+apply rom (effect.Stop x) size s = stopped x s
+apply rom (effect.Put d v) size s = write_register size d v s
+apply rom (effect.Load t a n) size s = unless (load_stop a n) s (went (put size t (load n a rom s.memory) s))
+apply rom (effect.Store a n v) size s = unless (store_stop a n) s (stored size a n v s)
+apply rom (effect.Jump a) size s = went (record s { cpu = record s.cpu { pc = a } })
+apply rom (effect.Special k v) size s = went (record s { cpu = special k v (pass size s).cpu })
+apply rom (effect.Bxns v) size s = bxns rom v s
+
+-- an instruction of this size
+abbrev pub act : List ℕ → Instr → ℕ → State → Done
+act rom i size s = apply rom (effect_of i s.cpu) size s
+
+abbrev pub act_or : List ℕ → Option Decoded → State → Done
+act_or rom None s = stopped stop.Undefined s
+act_or rom (Some d) s = act rom d.instr d.size s
+
+-- One step in Secure state: the halfword at the program counter; where it is no whole instruction, the one
+-- behind it too; and what they are.
+unfoldable pub step_of : List ℕ → State → Done
+step_of rom s =
+    let pc = s.cpu.pc in
+    cond (is_in_rom pc)
+    (cond (is_narrow (fetched rom pc)) (act_or rom (decode_of (fetched rom pc) 0) s)
+    (cond (is_in_rom (pc + 2)) (act_or rom (decode_of (fetched rom pc) (fetched rom (pc + 2))) s) (stopped stop.BadState s)))
+    (stopped stop.BadState s)
+
+-- Turns
+
+-- the registers as a turn sets them; r0 to r12 are the first 13 members
+abbrev pub set_by : Turn → Cpu → Cpu
+set_by t c = record c {
+  regs = record c.regs {
+    r0 = slice_index t.r 0;
+    r1 = slice_index t.r 1;
+    r2 = slice_index t.r 2;
+    r3 = slice_index t.r 3;
+    r4 = slice_index t.r 4;
+    r5 = slice_index t.r 5;
+    r6 = slice_index t.r 6;
+    r7 = slice_index t.r 7;
+    r8 = slice_index t.r 8;
+    r9 = slice_index t.r 9;
+    r10 = slice_index t.r 10;
+    r11 = slice_index t.r 11;
+    r12 = slice_index t.r 12;
+    lr = t.lr;
+  };
+  nzcvq = t.nzcvq;
+  msp_ns = aligned 4 t.msp_ns;
+  psp_ns = aligned 4 t.psp_ns;
+}
+
+-- the state after a turn has set its registers and its items have left this Non-secure RAM
+abbrev pub turned : Turn → List ℕ → State → State
+turned t ram s = record { cpu = set_by t s.cpu; memory = record s.memory { ns_ram = ram } }
+
+-- One turn in Non-secure state: registers, items, and the branch to the target. A turn itself hands nothing over.
+unfoldable pub turn_of : List ℕ → Turn → State → Done
+turn_of rom t s =
+    let after = acted t.items s.memory.ns_ram in
+    let s' = turned t after.ram s in
+    unless after.stop s' (arrived rom (goes_in rom t.target) (aligned 2 t.target) what.Went s')

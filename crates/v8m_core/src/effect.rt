@@ -1,0 +1,20 @@
+use cm_base::Stop;
+
+/// What an instruction does to the state, with its operands read.
+#[derive(Clone, Copy, Debug, PartialEq, Eq)]
+pub enum Effect {
+    /// Nothing but the next instruction.
+    Pass,
+    Stop(Stop),
+    /// A write of a register, 13 being SP.
+    Put { d: u32, v: u32 },
+    /// A load of 1, 2 or 4 bytes into a register.
+    Load { t: u32, at: u32, size: u8 },
+    /// A store of the low 1, 2 or 4 bytes.
+    Store { at: u32, size: u8, v: u32 },
+    /// A branch in Secure state.
+    Jump { at: u32 },
+    /// A write of a special register, by its number in MSR.
+    Special { k: u32, v: u32 },
+    Bxns { v: u32 },
+}

@@ -1,0 +1,17 @@
+//! The machine: its state, one step of Secure code, the gates, and turns of Non-secure code.
+#![tactic(auto)]
+
+mod applying;
+mod effect;
+mod gates;
+mod machine;
+mod operands;
+mod stepped;
+mod turning;
+
+pub use effect::Effect;
+pub use machine::{Image, Machine};
+pub use stepped::Stepped;
+
+#[cfg(test)]
+mod tests;

@@ -1,0 +1,5 @@
+pub mod PieceLaws
+pub mod KindLaws
+pub mod RowLaws
+pub mod TableLaws
+pub mod Laws

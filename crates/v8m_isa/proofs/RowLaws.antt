@@ -1,0 +1,205 @@
+-- Laws of rows: a word of some numbers has those numbers, and its fixed bits.
+use Rattle.std.proofs.Common.{◌≡◌, ℕ, ◌+◌, ◌/◌, ◌%◌, ◌^◌, ◌<◌, ◌≤◌, Bool, true, ◌&&◌, List, [], ◌∷◌, ◌++◌, refl, sym, ap, ◌∙◌, subst, arith, bit_or, length, drop, take, get_or, slice_set}
+use Rattle.std.specs.Prelude.{eqb, ltb}
+use Rattle.std.specs.List.{list_all}
+use Rattle.std.specs.Int.Bits.{or_zero_r}
+use Rattle.std.proofs.lemmas.Bool.Decides.{nat_tests}
+use Rattle.std.proofs.lemmas.List.{drop_more, drop_all, take_more_set, take_more, get_or-map, length-map}
+use Rattle.std.proofs.lemmas.Nat.{or_comm, or_lt, shl_below, mod_below, pow_pos}
+use Rattle.std.proofs.Math.Nat.{mod-eq_of_lt, pow-le-pow_right}
+use Rattle.v8m_isa.specs.declared.form.Piece.{Piece}
+use Rattle.v8m_isa.specs.declared.form.Field.{Field}
+use Rattle.v8m_isa.specs.declared.form.Kind.{Kind}
+use Rattle.v8m_isa.specs.Form.{put, put_all, is_in_word, are_in_word, all_in_word, bits_of, number_of, field_put, field_got, field_takes, fields_put, fields_got, all_taken, word_of, Row}
+use Rattle.v8m_isa.proofs.PieceLaws.{or_assoc, and_parts, slot, slot_or, slot_zero, slot_or_zero, slot-put_all, is_clear, AreZero, AreZero-zero, AreZero-or, AreZero-put, Show, width, is_whole, are_apart, got_all-show, show-put_all}
+use Rattle.v8m_isa.proofs.KindLaws.{has_width, shown}
+
+-- the loops over the fields
+pub fields_put_more : (fs : List Field) (vs : List ℕ) (k w y : ℕ) (d : Field) (e : ℕ) → k < length fs → k < length vs → y ≡ field_put (get_or fs k d) (get_or vs k e) → bit_or (bit_or w y) (fields_put (drop (k + 1) fs) (drop (k + 1) vs)) ≡ bit_or w (fields_put (drop k fs) (drop k vs))
+unfolding fields_put
+fields_put_more fs vs k w y d e lt lv is =
+    or_assoc w y (fields_put (drop (k + 1) fs) (drop (k + 1) vs))
+    ∙ ap (λ b. bit_or w (bit_or b (fields_put (drop (k + 1) fs) (drop (k + 1) vs)))) is
+    ∙ sym (ap (λ qs. bit_or w (fields_put qs (drop k vs))) (drop_more fs k d lt) ∙ ap (λ us. bit_or w (fields_put (get_or fs k d ∷ drop (k + 1) fs) us)) (drop_more vs k e lv))
+
+pub fields_put_end : (fs : List Field) (vs : List ℕ) (k w : ℕ) → length fs ≤ k → bit_or w (fields_put (drop k fs) (drop k vs)) ≡ w
+unfolding fields_put
+fields_put_end fs vs k w le = ap (λ qs. bit_or w (fields_put qs (drop k vs))) (drop_all k fs le) ∙ or_zero_r w
+
+pub all_taken_more : (fs : List Field) (vs : List ℕ) (k : ℕ) (t : Bool) (d : Field) (e : ℕ) → k < length fs → k < length vs → t ≡ field_takes (get_or fs k d) (get_or vs k e) → all_taken (drop k fs) (drop k vs) ≡ (t && all_taken (drop (k + 1) fs) (drop (k + 1) vs))
+unfolding all_taken
+all_taken_more fs vs k t d e lt lv is =
+    ap (λ qs. all_taken qs (drop k vs)) (drop_more fs k d lt)
+    ∙ ap (λ us. all_taken (get_or fs k d ∷ drop (k + 1) fs) us) (drop_more vs k e lv)
+    ∙ ap (λ b. b && all_taken (drop (k + 1) fs) (drop (k + 1) vs)) (sym is)
+
+pub all_taken_end : (fs : List Field) (vs : List ℕ) (k : ℕ) → length fs ≤ k → length vs ≤ k → all_taken (drop k fs) (drop k vs) ≡ true
+unfolding all_taken
+all_taken_end fs vs k le lv = ap (λ qs. all_taken qs (drop k vs)) (drop_all k fs le) ∙ ap (all_taken []) (drop_all k vs lv)
+
+pub fields_got_more : (fs : List Field) (vs : List ℕ) (w k y : ℕ) (d : Field) → k < length fs → length vs ≡ length fs → y ≡ field_got (get_or fs k d) w → take k vs ≡ take k (fields_got fs w) → take (k + 1) (slice_set vs k y) ≡ take (k + 1) (fields_got fs w)
+fields_got_more fs vs w k y d lt e is h =
+    take_more_set vs k y (omega arith)
+    ∙ ap (λ us. us ++ y ∷ []) h
+    ∙ ap (λ x. take k (fields_got fs w) ++ x ∷ []) (is ∙ sym (get_or-map (λ f. field_got f w) fs k d 0 lt))
+    ∙ sym (take_more (fields_got fs w) k 0 (let l = length-map fs (λ (f : Field). field_got f w) in omega arith))
+
+-- a slot apart from each piece of the fields
+abbrev pub is_clear_of : ℕ → ℕ → List Field → Bool
+is_clear_of at wide [] = true
+is_clear_of at wide (f ∷ fs) = is_clear at wide f.pieces && is_clear_of at wide fs
+
+slot-fields_put : (at wide : ℕ) (fs : List Field) (vs : List ℕ) → is_clear_of at wide fs ≡ true → slot at wide (fields_put fs vs) ≡ 0
+unfolding fields_put
+slot-fields_put at wide [] vs h = slot_zero at wide
+slot-fields_put at wide (f ∷ fs) [] h = slot_zero at wide
+slot-fields_put at wide (f ∷ fs) (v ∷ vs) h =
+    let parts = and_parts (is_clear at wide f.pieces) (is_clear_of at wide fs) h in
+    slot_or_zero at wide (field_put f v) (fields_put fs vs) (slot-put_all at wide f.pieces (bits_of f.kind v) parts.0) (slot-fields_put at wide fs vs parts.1)
+
+-- such a slot is fixed
+pub slot-word_of : (at wide : ℕ) (r : Row) (vs : List ℕ) → is_clear_of at wide r.fields ≡ true → slot at wide (word_of r vs) ≡ slot at wide r.base
+unfolding word_of
+slot-word_of at wide r vs h =
+    slot_or at wide r.base (fields_put r.fields vs) ∙ ap (bit_or (slot at wide r.base)) (slot-fields_put at wide r.fields vs h) ∙ or_zero_r (slot at wide r.base)
+
+-- the test of a row's fields: no two pieces have a bit in common, the fixed bits are 0 there, each field is whole
+abbrev pub are_clear_of : List Piece → List Field → Bool
+are_clear_of [] fs = true
+are_clear_of (p ∷ ps) fs = is_clear_of p.at p.wide fs && are_clear_of ps fs
+
+abbrev pub are_zero : List Piece → ℕ → Bool
+are_zero [] w = true
+are_zero (p ∷ ps) w = eqb (slot p.at p.wide w) 0 && are_zero ps w
+
+abbrev pub is_sound : List Piece → Kind → ℕ → Bool
+is_sound ps k n = is_whole ps && (eqb n (width ps) && has_width k n)
+
+abbrev pub are_sound : ℕ → List Field → Bool
+are_sound base [] = true
+are_sound base (f ∷ fs) = are_apart f.pieces && (are_clear_of f.pieces fs && (are_zero f.pieces base && (is_sound f.pieces f.kind f.wide && are_sound base fs)))
+
+record IsSound (base : ℕ) (f : Field) (fs : List Field) : Type 0 where
+  apart : are_apart f.pieces ≡ true
+  clear : are_clear_of f.pieces fs ≡ true
+  zeros : are_zero f.pieces base ≡ true
+  whole : is_whole f.pieces ≡ true
+  wide : f.wide ≡ width f.pieces
+  kind : has_width f.kind f.wide ≡ true
+  rest : are_sound base fs ≡ true
+
+sound_parts : (base : ℕ) (f : Field) (fs : List Field) → are_sound base (f ∷ fs) ≡ true → IsSound base f fs
+sound_parts base f fs h =
+    let a = and_parts (are_apart f.pieces) _ h in
+    let b = and_parts (are_clear_of f.pieces fs) _ a.1 in
+    let c = and_parts (are_zero f.pieces base) _ b.1 in
+    let d = and_parts (is_sound f.pieces f.kind f.wide) (are_sound base fs) c.1 in
+    let e = and_parts (is_whole f.pieces) _ d.0 in
+    let g = and_parts (eqb f.wide (width f.pieces)) (has_width f.kind f.wide) e.1 in
+    record { apart = a.0; clear = b.0; zeros = c.0; whole = e.0; wide = (let t = g.0 in grind (arith, nat_tests)); kind = g.1; rest = d.1 }
+
+abbrev AreAllZero : List Field → ℕ → Type 0
+AreAllZero [] w = Unit {0}
+AreAllZero (f ∷ fs) w = AreZero f.pieces w × AreAllZero fs w
+
+AreAllZero-zero : (fs : List Field) → AreAllZero fs 0
+AreAllZero-zero [] = tt
+AreAllZero-zero (f ∷ fs) = (AreZero-zero f.pieces, AreAllZero-zero fs)
+
+AreAllZero-or : (fs : List Field) (a b : ℕ) → AreAllZero fs a → AreAllZero fs b → AreAllZero fs (bit_or a b)
+AreAllZero-or [] a b g h = tt
+AreAllZero-or (f ∷ fs) a b g h = (AreZero-or f.pieces a b g.0 h.0, AreAllZero-or fs a b g.1 h.1)
+
+AreAllZero-put : (p : Piece) (fs : List Field) (x : ℕ) → is_clear_of p.at p.wide fs ≡ true → AreAllZero fs (put p x)
+AreAllZero-put p [] x h = tt
+AreAllZero-put p (f ∷ fs) x h =
+    let parts = and_parts (is_clear p.at p.wide f.pieces) (is_clear_of p.at p.wide fs) h in
+    (AreZero-put p f.pieces x parts.0, AreAllZero-put p fs x parts.1)
+
+AreAllZero-put_all : (ps : List Piece) (fs : List Field) (x : ℕ) → are_clear_of ps fs ≡ true → AreAllZero fs (put_all ps x)
+unfolding put_all
+AreAllZero-put_all [] fs x h = AreAllZero-zero fs
+AreAllZero-put_all (p ∷ ps) fs x h =
+    let parts = and_parts (is_clear_of p.at p.wide fs) (are_clear_of ps fs) h in
+    AreAllZero-or fs (put p x) (put_all ps x) (AreAllZero-put p fs x parts.0) (AreAllZero-put_all ps fs x parts.1)
+
+AreZero-fields_put : (ps : List Piece) (fs : List Field) (vs : List ℕ) → are_clear_of ps fs ≡ true → AreZero ps (fields_put fs vs)
+AreZero-fields_put [] fs vs h = tt
+AreZero-fields_put (p ∷ ps) fs vs h =
+    let parts = and_parts (is_clear_of p.at p.wide fs) (are_clear_of ps fs) h in
+    (slot-fields_put p.at p.wide fs vs parts.0, AreZero-fields_put ps fs vs parts.1)
+
+-- each field of a word has its number's bits
+abbrev AllShow : List Field → List ℕ → ℕ → Type 0
+AllShow [] vs w = Unit {0}
+AllShow (f ∷ fs) [] w = Unit {0}
+AllShow (f ∷ fs) (v ∷ vs) w = Show f.pieces w (bits_of f.kind v) × AllShow fs vs w
+
+show-fields_put : (base : ℕ) (fs : List Field) (vs : List ℕ) (y : ℕ) → are_sound base fs ≡ true → AreAllZero fs y → AllShow fs vs (bit_or y (fields_put fs vs))
+unfolding fields_put
+show-fields_put base [] vs y h z = tt
+show-fields_put base (f ∷ fs) [] y h z = tt
+show-fields_put base (f ∷ fs) (v ∷ vs) y h z =
+    let s = sound_parts base f fs h in
+    let turned : bit_or (bit_or y (fields_put fs vs)) (field_put f v) ≡ bit_or y (bit_or (field_put f v) (fields_put fs vs)) =
+    or_assoc y (fields_put fs vs) (field_put f v) ∙ ap (bit_or y) (or_comm (fields_put fs vs) (field_put f v))
+    in
+    let here = show-put_all f.pieces (bits_of f.kind v) (bit_or y (fields_put fs vs)) s.apart (AreZero-or f.pieces y (fields_put fs vs) z.0 (AreZero-fields_put f.pieces fs vs s.clear)) in
+    let there = show-fields_put base fs vs (bit_or y (field_put f v)) s.rest (AreAllZero-or fs y (field_put f v) z.1 (AreAllZero-put_all f.pieces fs (bits_of f.kind v) s.clear)) in
+    (subst (λ w. Show f.pieces w (bits_of f.kind v)) turned here, subst (AllShow fs vs) (or_assoc y (field_put f v) (fields_put fs vs)) there)
+
+field_back : (base : ℕ) (f : Field) (fs : List Field) (v w : ℕ) → IsSound base f fs → field_takes f v ≡ true → Show f.pieces w (bits_of f.kind v) → field_got f w ≡ v
+field_back base f fs v w s h is =
+    let k = shown f.kind f.wide v s.kind h in
+    let small : bits_of f.kind v < 2 ^ width f.pieces = subst (λ n. bits_of f.kind v < 2 ^ n) s.wide k.small in
+    ap (number_of f.kind) (got_all-show f.pieces w (bits_of f.kind v) s.whole is ∙ mod-eq_of_lt small) ∙ k.back
+
+fields_back : (base : ℕ) (fs : List Field) (vs : List ℕ) (w : ℕ) → are_sound base fs ≡ true → all_taken fs vs ≡ true → AllShow fs vs w → fields_got fs w ≡ vs
+unfolding all_taken
+fields_back base [] [] w h t s = refl
+fields_back base [] (v ∷ vs) w h t s = cc
+fields_back base (f ∷ fs) [] w h t s = cc
+fields_back base (f ∷ fs) (v ∷ vs) w h t s =
+    let i = sound_parts base f fs h in
+    let parts = and_parts (field_takes f v) (all_taken fs vs) t in
+    ap (λ x. x ∷ fields_got fs w) (field_back base f fs v w i parts.0 s.0) ∙ ap (λ us. v ∷ us) (fields_back base fs vs w i.rest parts.1 s.1)
+
+AreZero-from : (ps : List Piece) (w : ℕ) → are_zero ps w ≡ true → AreZero ps w
+AreZero-from [] w h = tt
+AreZero-from (p ∷ ps) w h = let parts = and_parts (eqb (slot p.at p.wide w) 0) (are_zero ps w) h in ((let t = parts.0 in grind (arith, nat_tests)), AreZero-from ps w parts.1)
+
+AreAllZero-from : (base : ℕ) (fs : List Field) → are_sound base fs ≡ true → AreAllZero fs base
+AreAllZero-from base [] h = tt
+AreAllZero-from base (f ∷ fs) h = let s = sound_parts base f fs h in (AreZero-from f.pieces base s.zeros, AreAllZero-from base fs s.rest)
+
+-- the numbers of a row's word are those that it was made of
+pub fields_got-word_of : (r : Row) (vs : List ℕ) → are_sound r.base r.fields ≡ true → all_taken r.fields vs ≡ true → fields_got r.fields (word_of r vs) ≡ vs
+unfolding word_of
+fields_got-word_of r vs h t = fields_back r.base r.fields vs (bit_or r.base (fields_put r.fields vs)) h t (show-fields_put r.base r.fields vs r.base h (AreAllZero-from r.base r.fields h))
+
+-- a row's word has 32 bits
+put_lt : (p : Piece) (x : ℕ) → is_in_word p ≡ true → put p x < 2 ^ 32
+put_lt p x h =
+    let small : x / 2 ^ p.from % 2 ^ p.wide < 2 ^ p.wide = mod_below (x / 2 ^ p.from) (2 ^ p.wide) (pow_pos p.wide) in
+    let fits : put p x < 2 ^ (p.wide + p.at) = shl_below (x / 2 ^ p.from % 2 ^ p.wide) p.wide p.at small in
+    let le : p.at + p.wide ≤ 32 = grind (arith, nat_tests) in
+    let top : 2 ^ (p.wide + p.at) ≤ 2 ^ 32 = pow-le-pow_right {n = 2} (omega arith) {i = p.wide + p.at} {j = 32} (omega arith) in
+    omega arith
+
+put_all_lt : (ps : List Piece) (x : ℕ) → list_all is_in_word ps ≡ true → put_all ps x < 2 ^ 32
+unfolding put_all
+put_all_lt [] x h = omega arith
+put_all_lt (p ∷ ps) x h = let parts = and_parts (is_in_word p) (list_all is_in_word ps) h in or_lt 32 (put p x) (put_all ps x) (put_lt p x parts.0) (put_all_lt ps x parts.1)
+
+fields_put_lt : (fs : List Field) (vs : List ℕ) → all_in_word fs ≡ true → fields_put fs vs < 2 ^ 32
+unfolding fields_put
+fields_put_lt [] vs h = omega arith
+fields_put_lt (f ∷ fs) [] h = omega arith
+fields_put_lt (f ∷ fs) (v ∷ vs) h =
+    let parts = and_parts (are_in_word f) (all_in_word fs) h in
+    let here = and_parts (ltb f.wide 32) (list_all is_in_word f.pieces) parts.0 in
+    or_lt 32 (field_put f v) (fields_put fs vs) (put_all_lt f.pieces (bits_of f.kind v) here.1) (fields_put_lt fs vs parts.1)
+
+pub word_of_lt : (r : Row) (vs : List ℕ) → r.base < 2 ^ 32 → all_in_word r.fields ≡ true → word_of r vs < 2 ^ 32
+unfolding word_of
+word_of_lt r vs lt h = or_lt 32 r.base (fields_put r.fields vs) lt (fields_put_lt r.fields vs h)

@@ -1,0 +1,125 @@
+-- A row of the instruction table: where the bits of its fields stand in the word first:second, and which numbers they take.
+use Rattle.std.specs.Prelude.{ℕ, ◌+◌, ◌-◌, ◌*◌, ◌/◌, ◌%◌, ◌^◌, Bool, true, false, cond, ◌&&◌, ◌||◌, eqb, ltb, leb, List, [], ◌∷◌, bit_or, map, Option, Some, None}
+use Rattle.std.specs.List.{list_all}
+use Rattle.v8m_isa.specs.declared.instr.Code.{Code}
+use Rattle.v8m_isa.specs.declared.form.Piece.{Piece}
+use Rattle.v8m_isa.specs.declared.form.Field.{Field}
+use Rattle.v8m_isa.specs.declared.form.Form.{Form}
+use Rattle.v8m_isa.specs.declared.form.Kind.{Kind}
+use Rattle.v8m_isa.specs.declared.form.Kind.TheVariants.{Register, Base, Number, Special, Far}
+
+-- the bits that a piece has of a field's, put into the word, and got from it
+abbrev pub put : Piece → ℕ → ℕ
+put p x = x / 2 ^ p.from % 2 ^ p.wide * 2 ^ p.at
+
+abbrev pub got : Piece → ℕ → ℕ
+got p w = w / 2 ^ p.at % 2 ^ p.wide * 2 ^ p.from
+
+unfoldable pub put_all : List Piece → ℕ → ℕ
+put_all [] x = 0
+put_all (p ∷ ps) x = bit_or (put p x) (put_all ps x)
+
+unfoldable pub got_all : List Piece → ℕ → ℕ
+got_all [] w = 0
+got_all (p ∷ ps) w = bit_or (got p w) (got_all ps w)
+
+-- each piece has its bits in 32, here and there
+abbrev pub is_in_word : Piece → Bool
+is_in_word p = ltb p.at 32 && (ltb p.from 32 && (ltb p.wide 32 && (leb (p.at + p.wide) 32 && leb (p.from + p.wide) 32)))
+
+abbrev pub are_in_word : Field → Bool
+are_in_word f = ltb f.wide 32 && list_all is_in_word f.pieces
+
+abbrev pub all_in_word : List Field → Bool
+all_in_word fs = list_all are_in_word fs
+
+-- NOT (I EOR S)
+abbrev pub not_xor : ℕ → ℕ → ℕ
+not_xor i s = (1 + i + s) % 2
+
+-- S:I1:I2:imm10:imm11 as S:J1:J2:imm10:imm11, or back (DDI0553, B, encoding T4)
+unfoldable pub turn : ℕ → ℕ
+turn x = let s = x / 2 ^ 23 in s * 2 ^ 23 + not_xor (x / 2 ^ 22 % 2) s * 2 ^ 22 + not_xor (x / 2 ^ 21 % 2) s * 2 ^ 21 + x % 2 ^ 21
+
+-- n bits with a sign, as a number modulo 2 ^ 32
+abbrev pub sign_extend : ℕ → ℕ → ℕ
+sign_extend n x = cond (ltb x (2 ^ (n - 1))) x (x + (2 ^ 32 - 2 ^ n))
+
+-- which numbers a field of so many bits takes
+unfoldable pub takes : Kind → ℕ → ℕ → Bool
+takes Register n v = ltb v 13 || eqb v 14
+takes Base n v = ltb v 15
+takes Number n v = ltb v (2 ^ n)
+takes Special n v = eqb v 0 || (eqb v 8 || (eqb v 9 || (eqb v 10 || (eqb v 11 || (eqb v 136 || eqb v 137)))))
+takes Far n v = eqb (v % 2) 0 && (ltb v (2 ^ 24) || leb (2 ^ 32 - 2 ^ 24) v && ltb v (2 ^ 32))
+
+-- the bits of a number in its field, and the number that bits show there
+unfoldable pub bits_of : Kind → ℕ → ℕ
+bits_of Register v = v
+bits_of Base v = v
+bits_of Number v = v
+bits_of Special v = v
+bits_of Far v = turn (v / 2 % 2 ^ 24)
+
+unfoldable pub number_of : Kind → ℕ → ℕ
+number_of Register x = x
+number_of Base x = x
+number_of Number x = x
+number_of Special x = x
+number_of Far x = sign_extend 25 (2 * turn (x % 2 ^ 24))
+
+abbrev pub field_put : Field → ℕ → ℕ
+field_put f v = put_all f.pieces (bits_of f.kind v)
+
+abbrev pub field_got : Field → ℕ → ℕ
+field_got f w = number_of f.kind (got_all f.pieces w)
+
+abbrev pub field_takes : Field → ℕ → Bool
+field_takes f v = takes f.kind f.wide v
+
+-- the bits of these numbers in the word
+unfoldable pub fields_put : List Field → List ℕ → ℕ
+fields_put [] vs = 0
+fields_put (f ∷ fs) [] = 0
+fields_put (f ∷ fs) (v ∷ vs) = bit_or (field_put f v) (fields_put fs vs)
+
+-- the numbers that a word has in the fields
+abbrev pub fields_got : List Field → ℕ → List ℕ
+fields_got fs w = map (λ f. field_got f w) fs
+
+-- there is a number for each field, and the field takes it
+unfoldable pub all_taken : List Field → List ℕ → Bool
+all_taken [] [] = true
+all_taken [] (v ∷ vs) = false
+all_taken (f ∷ fs) [] = false
+all_taken (f ∷ fs) (v ∷ vs) = field_takes f v && all_taken fs vs
+
+-- a row, without the number of its fields in its type
+pub record Row : Type 0 where
+  pub wide : Bool
+  pub base : ℕ
+  pub fields : List Field
+
+abbrev pub row : {N : ℕ} → Form N → Row
+row f = record { wide = f.wide; base = f.base; fields = f.fields }
+
+-- the word first:second of these numbers
+unfoldable pub word_of : Row → List ℕ → ℕ
+word_of r vs = bit_or r.base (fields_put r.fields vs)
+
+abbrev pub row_size : Row → ℕ
+row_size r = cond r.wide 4 2
+
+abbrev pub row_code : Row → List ℕ → Code
+row_code r vs = record { first = word_of r vs / 2 ^ 16; second = word_of r vs % 2 ^ 16; size = row_size r }
+
+-- the word that is held against a row: for a row of one halfword, of that alone
+abbrev pub word_in : Row → ℕ → ℕ → ℕ
+word_in r first second = first * 2 ^ 16 + cond r.wide second 0
+
+-- a word is of a row where the row takes the numbers that the word has there, and the word is theirs
+abbrev pub fits : Row → ℕ → Bool
+fits r w = all_taken r.fields (fields_got r.fields w) && eqb (word_of r (fields_got r.fields w)) w
+
+abbrev pub numbers_in : Row → ℕ → ℕ → Option (List ℕ)
+numbers_in r first second = cond (fits r (word_in r first second)) (Some (fields_got r.fields (word_in r first second))) None
