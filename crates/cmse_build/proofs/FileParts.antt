@@ -1,5 +1,5 @@
 -- The parts of an image's file, put together.
-use Rattle.std.proofs.Common.{◌≡◌, ℕ, ◌+◌, List, [], ◌∷◌, ◌++◌, length, replicate, codes, refl, sym, ap, ◌∙◌, append_assoc}
+use Rattle.std.proofs.Common.{◌≡◌, ℕ, ◌+◌, List, [], ◌∷◌, ◌++◌, length, replicate, codes, sym, ap, ◌∙◌, append_assoc}
 use Rattle.import_lib.specs.Elf.{header_of, sections_of, string_table, section_names, padding}
 use Rattle.cmse_build.specs.declared.image.Gate.{Gate}
 use Rattle.cmse_build.specs.Image.{names_of, symbol_table, segment_of, image_of}

@@ -1,5 +1,5 @@
 -- The name of a constant entry is fit for an import library and for an image.
-use Rattle.std.proofs.Common.{◌≡◌, ◌≢◌, ℕ, ◌+◌, ◌%◌, ◌<◌, ◌≤◌, ◌^◌, Bool, true, false, not, ◌&&◌, List, [], ◌∷◌, ◌++◌, length, get_or, refl, sym, ap, codes, suc, ◌∙◌, subst, arith, All, Contains, length-append}
+use Rattle.std.proofs.Common.{◌≡◌, ℕ, ◌+◌, ◌%◌, ◌<◌, ◌≤◌, ◌^◌, true, not, ◌&&◌, List, [], ◌∷◌, ◌++◌, length, refl, sym, ap, codes, suc, ◌∙◌, arith, Contains, length-append}
 use Rattle.std.specs.Prelude.{nat_le}
 use Rattle.std.proofs.lemmas.Bool.{false≢true}
 use Rattle.std.proofs.lemmas.Bool.Decides.{nat_tests}
@@ -7,7 +7,7 @@ use Rattle.std.proofs.lemmas.List.Elements.{All-nil, All-cons}
 use Rattle.std.proofs.lemmas.List.Sums.{AllPass-from_list_all}
 use Rattle.ns_types.specs.declared.event.Veneer.{Veneer}
 use Rattle.import_lib.specs.Elf.{symbol_of, string_table}
-use Rattle.import_lib.specs.Library.{symbol_table, names_of, CanWrite, library_size}
+use Rattle.import_lib.specs.Library.{symbol_table, CanWrite, library_size}
 use Rattle.cmse_build.specs.declared.image.Gate.{Gate}
 use Rattle.cmse_build.specs.Image as image
 use Rattle.cmse_build.specs.Constant.{is_c_name, is_entry_name, is_kept_name, is_word_byte}

@@ -1,7 +1,6 @@
 -- The image: an ELF file for Arm that holds the Secure ROM (System V ABI, Program Header; ELF for the Arm Architecture).
-use Rattle.std.specs.Prelude.{◌≡◌, ℕ, ◌+◌, ◌-◌, ◌*◌, ◌/◌, ◌%◌, ◌^◌, ◌<◌, ◌==◌, ◌&&◌, ◌||◌, Bool, true, false, not, nat_lt, nat_le, List, [], ◌∷◌, ◌++◌, length, map, flat_map, replicate, take, drop, codes, slice_index, All, Option, Some, None, option_to_list, Result, Ok, Err, if◌then◌else◌}
-use Rattle.std.specs.List.{list_any, fold}
-use Rattle.elf32.specs.Fields.{le16, le32, field16, field32}
+use Rattle.std.specs.Prelude.{ℕ, ◌+◌, ◌^◌, ◌<◌, List, [], ◌∷◌, ◌++◌, length, map, flat_map, replicate, codes, All}
+use Rattle.elf32.specs.Fields.{le32}
 use Rattle.import_lib.specs.Elf.{header_of, symbol_of, sections_of, string_table, section_names, padding}
 use Rattle.cmse_build.specs.declared.image.Gate.{Gate}
 

@@ -1,5 +1,5 @@
 -- What the bytes of an image give: the Secure ROM, or the offset of the first fault (System V ABI, Object Files).
-use Rattle.std.specs.Prelude.{◌≡◌, ◌≤◌, ℕ, ◌+◌, ◌-◌, ◌*◌, ◌/◌, ◌%◌, ◌==◌, ◌&&◌, ◌||◌, Bool, true, false, not, nat_lt, nat_le, zero, suc, List, [], ◌∷◌, ◌++◌, length, replicate, take, drop, slice_get, Option, Some, None, unwrap_or, option_to_list, Result, Ok, Err, if◌then◌else◌}
+use Rattle.std.specs.Prelude.{◌≡◌, ◌≤◌, ℕ, ◌+◌, ◌-◌, ◌*◌, ◌/◌, ◌%◌, ◌==◌, ◌&&◌, Bool, true, false, not, nat_lt, nat_le, zero, suc, List, [], ◌∷◌, ◌++◌, length, replicate, take, drop, slice_get, Option, Some, None, unwrap_or, Result, Ok, Err, if◌then◌else◌}
 use Rattle.std.specs.List.{list_any, fold}
 use Rattle.elf32.specs.Fields.{field16, field32}
 use Rattle.cmse_build.specs.declared.load.Segment.{Segment}

@@ -1,7 +1,8 @@
 //! The image of the Secure ROM: an ELF file for Arm.
-ghost use Rattle.std.specs.Prelude.{◌≡◌, ◌+◌, ◌<◌, ◌^◌, [], ◌∷◌, ◌++◌, length, replicate, All, IfOk, OnOk};
+ghost use Rattle.std.specs.Prelude.{◌≡◌, ◌+◌, ◌-◌, ◌<◌, ◌≤◌, ◌^◌, [], ◌∷◌, ◌++◌, true, Ok, length, replicate, All, IfOk, OnOk};
 ghost use Rattle.import_lib.specs.Elf.{string_table, header_of, section_names, sections_of};
 ghost use Rattle.cmse_build.specs.Image.{names_of, symbol_table, segment_of, image_of, CanWrite};
+ghost use Rattle.cmse_build.specs.Reading.{is_entry, word, zeros, rom_of_image};
 
 use cm_base::{Bytes, NoMemory, Text};
 use import_lib::{
@@ -139,7 +140,10 @@ pub fn write_image(
     gates: &[Gate],
 ) -> Result<Bytes, NoMemory>
     requires { CanWrite rom_used.now gateways.now gates.now }
-    ensures { IfOk result (λ file. file ≡ image_of entry rom_used.now gateways.now gates.now) }
+    ensures value { IfOk result (λ file. file ≡ image_of entry rom_used.now gateways.now gates.now) }
+    ensures reads_back { IfOk result (λ file. 4 < length rom_used.now → length rom_used.now ≤ 4190208
+        → length gateways.now ≡ 4096 → is_entry entry (word rom_used.now 4) ≡ true
+        → rom_of_image file ≡ Ok ((rom_used.now ++ zeros (4190208 - length rom_used.now)) ++ gateways.now)) }
 {
     let symbols = symbols_of(alloc, gates)?;
     let symbols_size = symbols.len();

@@ -7,4 +7,4 @@ mod load;
 
 pub use constant::{one_constant, read_constant};
 pub use image::{Gate, write_image};
-pub use load::{Image, ImageFault, load_image};
+pub use load::{ImageFault, load_image};

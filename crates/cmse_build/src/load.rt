@@ -8,6 +8,7 @@ use cm_base::{Bytes, List, NoMemory};
 use elf32::{get16, get32};
 use std::alloc::Global;
 use thiserror::Error;
+use v8m_core::Image;
 
 /// Why an image wasn't read.
 #[derive(Clone, Copy, Debug, PartialEq, Eq, Error)]
@@ -17,12 +18,6 @@ pub enum ImageFault {
     BadImage(u32),
     #[error("no memory")]
     NoMemory,
-}
-
-/// The bytes of the Secure ROM and of the Non-secure callable region behind it.
-#[derive(Debug, Drop)]
-pub struct Image {
-    pub rom: Bytes,
 }
 
 impl From<NoMemory> for ImageFault {

@@ -1,7 +1,6 @@
-use Rattle.std.proofs.Common.{◌≡◌, List, ◌++◌, subst, take, drop, true, sym, ap, ◌∙◌, arith, codes, IfSome}
+use Rattle.std.proofs.Common.{◌≡◌, ◌++◌, subst, take, drop, true, sym, ap, ◌∙◌, codes}
 use Rattle.std.specs.Fmt.{decimal}
-use Rattle.std.specs.List.{prefix_len}
-use Rattle.cmse_build.specs.Constant.{IsConstant, IsEnd, is_word_byte, is_digit, is_entry_name}
+use Rattle.cmse_build.specs.Constant.{IsEnd, is_entry_name}
 use Rattle.std.proofs.lemmas.List.{take-append-drop}
 use Rattle.std.proofs.lemmas.Bool.{false≢true}
 use Rattle.cmse_build.proofs.Texts.{no_constant, name_at, number_at}

@@ -1,6 +1,5 @@
-use Rattle.std.proofs.Common.{◌≡◌, ◌+◌, ◌<◌, [], ◌∷◌, ◌++◌, List, ℕ, length, flat_map, drop, codes, sym, ap, ◌∙◌, append_assoc}
+use Rattle.std.proofs.Common.{◌+◌, [], ◌∷◌, ◌++◌, flat_map, drop, sym, ap, ◌∙◌}
 use Rattle.std.proofs.lemmas.List.{at_drop_more}
-use Rattle.import_lib.specs.Elf.{string_table}
 use Rattle.cmse_build.specs.Image.{names_of}
 use Rattle.cmse_build.proofs.FileParts.{strings_step}
 use Rattle.cmse_build.proofs.image.strings_of.Goals as goal
