@@ -1,13 +1,13 @@
 -- The bytes of Secure ROM hold the program.
-use Rattle.std.proofs.Common.{◌≡◌, ◌≢◌, ℕ, zero, suc, ◌+◌, ◌-◌, ◌*◌, ◌/◌, ◌%◌, ◌<◌, ◌≤◌, ◌⊎◌, Bool, true, false, cond, List, [], ◌∷◌, ◌++◌, length, refl, sym, ap, ◌∙◌, subst, ⊎_elim, inl, inr, arith, append_assoc, length-append, All, flat_map, IsTrue}
-use Rattle.std.specs.Prelude.{eqb, ltb, leb, ◌&&◌, slice_index, replicate}
+use Rattle.std.proofs.Common.{◌≡◌, ◌≢◌, ℕ, zero, suc, ◌+◌, ◌-◌, ◌*◌, ◌/◌, ◌%◌, ◌<◌, Bool, true, false, cond, List, [], ◌∷◌, ◌++◌, length, refl, sym, ap, ◌∙◌, subst, ⊎_elim, arith, append_assoc, length-append, All, flat_map, IsTrue}
+use Rattle.std.specs.Prelude.{eqb, ltb, ◌&&◌, slice_index, replicate}
 use Rattle.std.proofs.lemmas.Grind.{common_steps}
 use Rattle.std.proofs.lemmas.Bool.Decides.{nat_tests}
 use Rattle.std.specs.List.{AllByRecursion}
 use Rattle.std.proofs.lemmas.List.Elements.{All-from_recursion}
 use Rattle.std.proofs.lemmas.Bool.{cases_lt}
 use Rattle.v8m_isa.specs.declared.instr.Instr.{Instr}
-use Rattle.v8m_isa.specs.declared.instr.Instr.TheVariants.{Mov, Bxns, Udf, Sg, Movw, Movt, Bic, Ldr, Str, B, Msr}
+use Rattle.v8m_isa.specs.declared.instr.Instr.TheVariants.{Mov, Bxns, Udf, Movw, Movt, Msr}
 use Rattle.v8m_isa.specs.Form.{all_taken, takes, word_of, fields_put, put_all, bits_of, turn}
 use Rattle.v8m_isa.specs.Table.{in_range_of, size_of, code_of, opcode_of, numbers_of, row_of}
 use Rattle.ns_types.specs.Platform.{lies_in}
@@ -15,9 +15,9 @@ use Rattle.ns_types.specs.Memory.{half_at, word_at}
 use Rattle.v8m_core.specs.Step.{fetched, is_gateway}
 use Rattle.v8m_isa.proofs.Laws.{size-code_of, size_of_two_or_four}
 use Rattle.v8m_core.specs.Code.{two, HasCode, instr_bytes, code_bytes, AllInRange}
-use Rattle.v8m_core.proofs.Bytes.{half_at_seam, word_at_seam, length_bytes, has_code}
+use Rattle.v8m_core.proofs.Bytes.{word_at_seam, length_bytes, has_code}
 use Rattle.elf32.specs.Fields.{le32}
-use Rattle.constant_entry.specs.Code.{start_code, entry_code, gateway_code, vectors, used_bytes, gateway_bytes, rom_bytes, start_place, entry_place, stop_place}
+use Rattle.constant_entry.specs.Code.{start_code, entry_code, gateway_code, vectors, used_bytes, gateway_bytes, rom_bytes, start_place, entry_place}
 use Rattle.constant_entry.specs.Shows.{first_veneer, GivesConstant}
 
 -- how many bytes code has

@@ -1,5 +1,5 @@
 -- The machine has one run, so what holds for some number of steps at each bound says what each number of steps shows.
-use Rattle.std.proofs.Common.{◌≡◌, ◌≢◌, ℕ, zero, suc, ◌+◌, ◌<◌, ◌≤◌, ◌⊎◌, Bool, true, false, List, [], ◌∷◌, ◌++◌, refl, sym, ap, ◌∙◌, subst, ⊎_elim, inl, inr, arith, append_assoc, Option}
+use Rattle.std.proofs.Common.{◌≡◌, ◌≢◌, ℕ, suc, ◌≤◌, ◌⊎◌, Bool, true, false, List, [], ◌∷◌, ◌++◌, refl, sym, ap, ◌∙◌, ⊎_elim, inl, inr, arith, append_assoc, Option}
 use Rattle.std.specs.Prelude.{min, ◌&&◌}
 use Rattle.std.proofs.lemmas.Bool.{cases_lt}
 use Rattle.cm_base.specs.declared.stop.Stop.TheVariants.{StackLimit}
@@ -12,9 +12,8 @@ use Rattle.ns_types.specs.declared.event.Bound.{Bound}
 use Rattle.ns_types.specs.declared.turn.Turn.{Turn}
 use Rattle.ns_types.specs.declared.turn.Start.{Start}
 use Rattle.ns_types.specs.CRun.{Run}
-use Rattle.v8m_mem.specs.Rows.{IsStart}
 use Rattle.v8m_core.specs.Reset.{reset_of}
-use Rattle.ns_turns.specs.Run.{machine_run, run_of}
+use Rattle.ns_turns.specs.Run.{machine_run}
 use Rattle.ns_turns.specs.Prefix.{IsFront}
 use Rattle.ns_turns.specs.Refines.{seen_of, Same, OutOfRoom, room, Refines, is_clean_event, is_clean, OnlyShows, Only}
 use Rattle.ns_turns.proofs.RunLaws.{GoesOn, run_goes}

@@ -1,14 +1,14 @@
 -- Code stands where its bytes stand.
-use Rattle.std.proofs.Common.{◌≡◌, ℕ, zero, suc, ◌+◌, ◌-◌, ◌*◌, ◌/◌, ◌%◌, ◌<◌, ◌≤◌, ◌⊎◌, Bool, true, false, cond, List, [], ◌∷◌, ◌++◌, length, refl, sym, ap, ◌∙◌, subst, ⊎_elim, inl, inr, arith, append_assoc, length-append}
+use Rattle.std.proofs.Common.{◌≡◌, ℕ, ◌+◌, ◌-◌, ◌/◌, ◌%◌, ◌<◌, ◌≤◌, ◌⊎◌, true, cond, List, [], ◌∷◌, ◌++◌, length, refl, sym, ap, ◌∙◌, subst, ⊎_elim, inl, inr, arith, append_assoc, length-append}
 use Rattle.std.specs.Prelude.{eqb, slice_index}
 use Rattle.std.proofs.lemmas.Grind.{common_steps}
 use Rattle.std.proofs.lemmas.Bool.Decides.{nat_tests}
 use Rattle.v8m_isa.specs.declared.instr.Instr.{Instr}
-use Rattle.v8m_isa.specs.Table.{in_range_of, size_of, code_of}
+use Rattle.v8m_isa.specs.Table.{size_of, code_of}
 use Rattle.ns_types.specs.Platform.{is_in_rom}
 use Rattle.ns_types.specs.Memory.{half_at, word_at}
 use Rattle.v8m_core.specs.Step.{fetched}
-use Rattle.v8m_core.specs.Code.{Holds, HasCode, two, instr_bytes, code_bytes, AllInRange}
+use Rattle.v8m_core.specs.Code.{HasCode, two, instr_bytes, code_bytes, AllInRange}
 use Rattle.v8m_isa.proofs.Laws.{size_of_two_or_four, first-code_of_lt, second-code_of_lt}
 
 -- a halfword where its bytes stand

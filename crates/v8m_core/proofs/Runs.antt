@@ -1,6 +1,6 @@
 -- Runs of code in Secure ROM.
-use Rattle.std.proofs.Common.{◌≡◌, ◌≢◌, ℕ, zero, suc, ◌+◌, ◌-◌, ◌*◌, ◌<◌, ◌≤◌, ◌⊎◌, Bool, true, false, cond, List, [], ◌∷◌, ◌++◌, length, refl, sym, ap, ◌∙◌, subst, ⊎_elim, inl, inr, arith, Option, Some, None}
-use Rattle.std.specs.Prelude.{◌%◌, ◌&&◌, not, eqb, ltb}
+use Rattle.std.proofs.Common.{◌≡◌, ◌≢◌, ℕ, zero, suc, ◌+◌, Bool, true, false, cond, List, [], ◌∷◌, ◌++◌, length, refl, sym, ap, ◌∙◌, subst, ⊎_elim, arith, Option, Some, None}
+use Rattle.std.specs.Prelude.{eqb}
 use Rattle.cm_base.specs.declared.stop.Stop.{Stop}
 use Rattle.cm_base.specs.declared.stop.Stop.TheVariants as stop
 use Rattle.v8m_isa.specs.declared.instr.Instr.{Instr}
@@ -11,13 +11,13 @@ use Rattle.ns_types.specs.declared.goes.Goes.TheVariants as goes
 use Rattle.ns_types.specs.declared.state.Cpu.{Cpu}
 use Rattle.ns_types.specs.declared.state.Side.TheVariants.{Secure}
 use Rattle.ns_types.specs.State.{State}
-use Rattle.ns_types.specs.Platform.{is_in_rom, aligned, in_row}
+use Rattle.ns_types.specs.Platform.{is_in_rom}
 use Rattle.v8m_core.specs.declared.stepped.Stepped.{Stepped}
 use Rattle.v8m_core.specs.declared.stepped.Stepped.TheVariants as what
 use Rattle.v8m_core.specs.declared.effect.Effect.{Effect}
 use Rattle.v8m_core.specs.declared.effect.Effect.TheVariants as effect
-use Rattle.v8m_core.specs.Step.{Done, went, stopped, unless, fetched, goes_in, seen, arrived, entered, handed, returned, return_stop, return_to, bxns, effect_of, pass, put, write_register, load_stop, store_stop, stored, special, apply, act, act_or, step_of}
-use Rattle.v8m_core.specs.Code.{Holds, HasCode, past, Comes, Follows, Does}
+use Rattle.v8m_core.specs.Step.{Done, went, stopped, unless, fetched, goes_in, seen, arrived, return_stop, return_to, bxns, effect_of, pass, write_register, load_stop, store_stop, special, apply, act, act_or, step_of}
+use Rattle.v8m_core.specs.Code.{Holds, HasCode, past, Comes, Does}
 
 -- decoding what was encoded
 decode-narrow : (i : Instr) → in_range_of i ≡ true → size_of i ≡ 2 → (is_narrow (code_of i).first ≡ true) × (decode_of (code_of i).first 0 ≡ Some (record { instr = i; size = 2 }))

@@ -1,4 +1,4 @@
-use Rattle.std.proofs.Common.{◌≡◌, ◌≢◌, ℕ, ◌++◌, sym, ap, ◌∙◌, append_assoc, arith}
+use Rattle.std.proofs.Common.{◌≡◌, ◌≢◌, ◌++◌, sym, ap, ◌∙◌, append_assoc}
 use Rattle.v8m_isa.specs.declared.instr.Code.{Code}
 use Rattle.v8m_core.specs.Code.{two}
 use Rattle.constant_entry.proofs.Placed.{instr_wide, instr_narrow}
