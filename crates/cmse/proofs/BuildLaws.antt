@@ -70,14 +70,14 @@ read_form o text lib img e b = read_whole o text e (form_short text b.name b.n b
 pub read_other : (o : Option (List ℕ)) (text : List ℕ) → option_map (take 1048577) o ≡ Some text → IsOther text → (all : List ℕ) × (o ≡ Some all) × IsOther all
 read_other None text e other = absurd (cc)
 read_other (Some all) text e other = (
-    all,
-    refl,
-    λ name n form.
-    let short = form_short all name n form in
-    let same : take 1048577 all ≡ text = cc in
-    let is : all ≡ text = sym (take_all 1048577 all (omega arith)) ∙ same in
-    other name n (subst (λ l. IsConstant l name n) is form),
-  )
+  all,
+  refl,
+  λ name n form.
+      let short = form_short all name n form in
+      let same : take 1048577 all ≡ text = cc in
+      let is : all ≡ text = sym (take_all 1048577 all (omega arith)) ∙ same in
+      other name n (subst (λ l. IsConstant l name n) is form),
+)
 
 told : (old new : Option Files) → is_some new ≡ is_some old → IsSome old → IsSome new
 told (Some x) (Some y) e h = tt

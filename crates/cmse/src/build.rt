@@ -135,10 +135,12 @@ pub fn cmse_main<S: Store, K: Sink>(
     let _ = out;
     match read_words(words) {
         Err(k) => Status::BadWords(k),
-        Ok(Command::Build {
-            image,
-            library,
-            source,
-        }) => build(alloc, store, image, library, source),
+        Ok(
+            Command::Build {
+                image,
+                library,
+                source,
+            },
+        ) => build(alloc, store, image, library, source),
     }
 }
