@@ -1,15 +1,16 @@
 -- From what was read, made and written to how the command ends.
-use Rattle.std.proofs.Common.{◌≡◌, ◌≢◌, ℕ, ◌+◌, ◌<◌, ◌≤◌, ◌⊎◌, Bool, true, List, [], ◌∷◌, ◌++◌, length, take, codes, refl, sym, ap, ◌∙◌, subst, ⊎_elim, inl, inr, arith, Option, Some, None, IsSome, is_some, Ok, option_map, length-append}
+use Rattle.std.proofs.Common.{◌≡◌, ◌≢◌, ℕ, ◌+◌, ◌-◌, ◌<◌, ◌≤◌, ◌⊎◌, Bool, true, List, [], ◌∷◌, ◌++◌, length, take, codes, refl, sym, ap, ◌∙◌, subst, ⊎_elim, inl, inr, arith, Option, Some, None, IsSome, is_some, Ok, option_map, length-append}
 use Rattle.std.specs.Fmt.{decimal}
 use Rattle.std.proofs.lemmas.Fmt.{length-decimal-le}
 use Rattle.std.proofs.lemmas.List.{take_all, length-take}
 use Rattle.cm_base.specs.Outside.{Files, held, IsMissing, OthersStay}
 use Rattle.import_lib.specs.Library.{library_of}
 use Rattle.cmse_build.specs.Constant.{IsConstant, IsEnd}
-use Rattle.cmse_build.specs.Reading.{rom_of_image}
+use Rattle.std.proofs.lemmas.Bool.{cases_lt}
+use Rattle.cmse_build.specs.Reading.{rom_of_image, zeros, word, is_entry}
 use Rattle.cmse_build.proofs.Ready.{short_name}
 use Rattle.ns_turns.proofs.OnlyLaws.{only_from_refines}
-use Rattle.constant_entry.specs.Code.{rom_bytes}
+use Rattle.constant_entry.specs.Code.{rom_bytes, used_bytes, gateway_bytes}
 use Rattle.constant_entry.specs.Meaning.{enters_first, constant_run}
 use Rattle.constant_entry.proofs.Views.{shows_constant}
 use Rattle.constant_entry.proofs.Whole.{refines}
@@ -80,9 +81,7 @@ read_other (Some all) text e other = (
 )
 
 told : (old new : Option Files) → is_some new ≡ is_some old → IsSome old → IsSome new
-told (Some x) (Some y) e h = tt
-told (Some x) None e h = absurd (cc)
-told None new e h = absurd h
+told old new e h = e ∙ h
 
 -- after the writes
 pub deliver_ends : (old new : Option Files) (reads writes : Type 0) (library lib image img source text : List ℕ) (status : Status) → is_some new ≡ is_some old → Delivers old new writes library lib image img status → Builds text lib img → (IsSome old → held old source ≡ Some text) → BuildEnds old new reads writes image library source status
@@ -115,3 +114,34 @@ refused_ends old new reads writes image library source (CannotRead file) e d h =
 refused_ends old new reads writes image library source (CannotWrite file) e d h = absurd d
 refused_ends old new reads writes image library source NoMemory e d h = ((λ other ne. ap (λ f. held f other) e), inl (ap (λ f. held f library) e))
 refused_ends old new reads writes image library source (BadInput file at) e d h = absurd d
+
+nat_same : (x y : ℕ) → (x ≡ y) ⊎ (x ≢ y)
+nat_same x y =
+    ⊎_elim (λ l. inr (λ e. omega arith)) (λ l. ⊎_elim (λ m. inr (λ e. omega arith)) (λ m. inl (omega arith)) (cases_lt y x)) (cases_lt x y)
+
+-- whether two names are one
+name_same : (a b : List ℕ) → (a ≡ b) ⊎ (a ≢ b)
+name_same [] [] = inl refl
+name_same [] (y ∷ b) = inr (λ e. cc)
+name_same (x ∷ a) [] = inr (λ e. cc)
+name_same (x ∷ a) (y ∷ b) =
+    ⊎_elim
+    (λ p. ⊎_elim (λ q. inl (ap (λ z. z ∷ a) p ∙ ap (λ l. y ∷ l) q)) (λ q. inr (λ e. q (cc))) (name_same a b))
+    (λ p. inr (λ e. p (cc)))
+    (nat_same x y)
+
+-- the library is written, and there was no memory for the image
+pub second_ends : (old mid new : Option Files) (writes : Type 0) (library lib image img : List ℕ) → image ≢ library → (IsSome old → held mid library ≡ Some lib) → OthersStay old mid library → held new image ≡ held mid image → OthersStay mid new image → is_some mid ≡ is_some old → is_some new ≡ is_some mid → Delivers old new writes library lib image img NoMemory
+second_ends old mid new writes library lib image img apart wrote first same second tells tells2 = (
+  (λ other ne. ⊎_elim (λ e. ap (held new) e ∙ same ∙ ap (held mid) (sym e) ∙ first other ne) (λ f. second other f ∙ first other ne) (name_same other image)),
+  inr (λ t. second library (λ e. apart (sym e)) ∙ wrote (sym tells ∙ sym tells2 ∙ t)),
+)
+
+-- the word that the image's entry is held against
+pub entry_word : (n : ℕ) → is_entry 268435521 (word (used_bytes n) 4) ≡ true
+entry_word n = refl
+
+-- the ROM that the image reads as
+pub same_rom : (n : ℕ) (rom region : List ℕ) → rom ≡ used_bytes n → region ≡ gateway_bytes → (rom ++ zeros (4190208 - length rom)) ++ region ≡ rom_bytes n
+unfolding zeros
+same_rom n rom region e f = ap (λ r. (r ++ zeros (4190208 - length r)) ++ region) e ∙ ap (λ r. (used_bytes n ++ zeros (4190208 - length (used_bytes n))) ++ r) f
