@@ -1,5 +1,6 @@
 -- Numbers and bytes, digit by digit.
-use Rattle.std.proofs.Common.{◌≡◌, ℕ, zero, suc, ◌+◌, ◌-◌, ◌*◌, ◌^◌, ◌<◌, ◌≤◌, List, [], ◌∷◌, ◌++◌, length, take, drop, get_or, Option, Some, None, refl, sym, ap, ◌∙◌, subst, append_assoc, add-one, arith}
+use Rattle.std.proofs.Common.{◌≡◌, ℕ, zero, suc, ◌+◌, ◌-◌, ◌*◌, ◌^◌, ◌<◌, ◌≤◌, ◌==◌, Bool, true, false, List, [], ◌∷◌, ◌++◌, length, take, drop, get_or, Option, Some, None, refl, sym, ap, ◌∙◌, subst, append_assoc, add-one, arith}
+use Rattle.std.proofs.lemmas.Bool.Decides.{nat_tests}
 use Rattle.std.specs.Option.{option_and_then, option_map}
 use Rattle.std.proofs.Math.Nat.{pow-le-pow_right, pow-suc}
 use Rattle.std.proofs.lemmas.List.{drop_more, drop_all, append-nil}
@@ -22,6 +23,16 @@ pub digits_fit : (n d i : ℕ) → n < 16 ^ i → i < 8 → d < 16 → 16 * n + 
 digits_fit n d i h lt small =
     let p : 16 ^ i ≤ 16 ^ 7 = pow-le-pow_right {n = 16} (omega arith) {i = i} {j = 7} (omega arith) in
     let q : 16 ^ i ≤ 268435456 = p in omega arith
+
+pub digits_room : (n i : ℕ) → n < 16 ^ i → i < 8 → 16 * n < 4294967296
+digits_room n i h lt = omega (arith, digits_fit n 0 i h lt (omega arith))
+
+-- a test for emptiness
+pub empty_yes : (n : ℕ) (b : Bool) → b ≡ (n == 0) → b ≡ true → n ≡ 0
+empty_yes n b e f = grind (arith, nat_tests)
+
+pub empty_no : (n : ℕ) (b : Bool) → b ≡ (n == 0) → b ≡ false → 0 < n
+empty_no n b e f = grind (arith, nat_tests)
 
 pub digits_grow : (n d i : ℕ) → n < 16 ^ i → d < 16 → 16 * n + d < 16 ^ (i + 1)
 digits_grow n d i h small = rw add-one (omega (arith, pow-suc 16 i))
@@ -66,5 +77,5 @@ unfolding onto
 onto_none None = refl
 onto_none (Some more) = refl
 
-pub ruleset numbers = (digits_next, digits_bad, digits_end, digits_fit, digits_grow)
+pub ruleset numbers = (digits_next, digits_bad, digits_end, digits_fit, digits_room, digits_grow)
 pub ruleset many = (pairs_next, pairs_bad, pairs_end, pairs_odd, onto_none)

@@ -1,16 +1,15 @@
 -- Bytes written one by one, and lines read one by one.
-use Rattle.std.proofs.Common.{◌≡◌, ℕ, zero, suc, ◌+◌, ◌-◌, ◌<◌, ◌≤◌, Bool, true, false, cond, List, [], ◌∷◌, ◌++◌, length, take, drop, get_or, slice_set, replicate, Option, Some, None, Result, Ok, Err, IsTrue, refl, sym, ap, ◌∙◌, subst, append_assoc, length-append, length-drop, add-zero, arith}
-use Rattle.std.proofs.Math.Seq.{set-append_seam, length_front}
-use Rattle.std.proofs.lemmas.List.{drop_more, drop_all, take_all, take_more, append-nil, length-replicate, take-append-drop, length-take}
-use Rattle.std.proofs.lemmas.Bool.Decides.{nat_tests}
+use Rattle.std.proofs.Common.{◌≡◌, ℕ, zero, suc, ◌+◌, ◌-◌, ◌<◌, ◌≤◌, Bool, true, false, cond, List, [], ◌∷◌, ◌++◌, length, take, drop, get_or, slice_set, replicate, Option, Some, None, Result, Ok, Err, refl, sym, ap, ◌∙◌, subst, append_assoc, length-append, length-drop, add-zero, arith}
+use Rattle.std.proofs.Math.Seq.{set-append_seam}
+use Rattle.std.proofs.Math.ListN.{length-set}
+use Rattle.std.proofs.lemmas.List.{drop_more, drop_all, take_all, take_more, append-nil, length-replicate, take-append-drop, length-take-le}
 use Rattle.ns_script.specs.declared.script.Script.{Script}
-use Rattle.ns_script.specs.declared.line.Region.TheVariants.{SecureRam, NsRam, NsRom}
 use Rattle.ns_script.specs.Text.{lines}
-use Rattle.ns_script.specs.Script.{with_bytes, zeros, lies, or_bad, with_line, script_from}
+use Rattle.ns_script.specs.Script.{with_bytes, zeros, or_bad, with_line, script_from, script_of}
 
 with_front : (to : List ℕ) (at : ℕ) (more : List ℕ) (i : ℕ) → i ≤ length more → with_bytes to at (take i more) ≡ (take at to ++ take i more) ++ drop (at + i) to
 unfolding with_bytes
-with_front to at more i h = ap (λ n. (take at to ++ take i more) ++ drop (at + n) to) (length_front more i h)
+with_front to at more i h = ap (λ n. (take at to ++ take i more) ++ drop (at + n) to) (length-take-le i more h)
 
 seam : (xs : List ℕ) (y : ℕ) (ys : List ℕ) (n a : ℕ) → length xs ≡ n → slice_set (xs ++ y ∷ ys) n a ≡ (xs ++ a ∷ []) ++ ys
 seam xs y ys n a e = subst (λ n. slice_set (xs ++ y ∷ ys) n a ≡ (xs ++ a ∷ []) ++ ys) e (set-append_seam xs y ys a ∙ sym (append_assoc xs (a ∷ []) ys))
@@ -19,7 +18,7 @@ pub write_next : (to : List ℕ) (at : ℕ) (more : List ℕ) (i : ℕ) → at +
 write_next to at more i fits lt =
     let a = get_or more i 0 in
     let x : List ℕ = take at to ++ take i more in
-    let long : length (take at to ++ take i more) ≡ at + i = length-append (take at to) (take i more) ∙ omega (arith, length_front to at (omega arith), length_front more i (omega arith)) in
+    let long : length (take at to ++ take i more) ≡ at + i = length-append (take at to) (take i more) ∙ omega (arith, length-take-le at to (omega arith), length-take-le i more (omega arith)) in
     let one : with_bytes to at (take i more) ≡ (take at to ++ take i more) ++ get_or to (at + i) 0 ∷ drop (at + i + 1) to = with_front to at more i (omega arith) ∙ ap (λ d. (take at to ++ take i more) ++ d) (drop_more to (at + i) 0 (omega arith)) in
     let two = seam (take at to ++ take i more) (get_or to (at + i) 0) (drop (at + i + 1) to) (at + i) (get_or more i 0) long in
     let sum : at + i + 1 ≡ at + (i + 1) = omega arith in
@@ -36,7 +35,7 @@ write_all to at more i le = ap (with_bytes to at) (take_all i more le)
 
 pub with_size : (to : List ℕ) (at : ℕ) (more : List ℕ) → at + length more ≤ length to → length (with_bytes to at more) ≡ length to
 unfolding with_bytes
-with_size to at more fits = omega (arith, length-append (take at to ++ more) (drop (at + length more) to), length-append (take at to) more, length_front to at (omega arith), length-drop (at + length more) to)
+with_size to at more fits = omega (arith, length-append (take at to ++ more) (drop (at + length more) to), length-append (take at to) more, length-take-le at to (omega arith), length-drop (at + length more) to)
 
 pub ruleset writes = (write_next, write_none, write_all, with_size)
 
@@ -53,19 +52,14 @@ filled_size n b = length-replicate n b
 
 pub ruleset sizes = (with_size, zeros_size, zeros_are, filled_size)
 
-pub secure_lies : (a n : ℕ) → IsTrue (lies SecureRam a n) → (805306368 ≤ a) × (a + n ≤ 805412864)
-unfolding lies
-secure_lies a n h = grind (arith, nat_tests)
+pub set_size : (l : List ℕ) (i a : ℕ) → length (slice_set l i a) ≡ length l
+set_size l i a = simp length-set
 
-pub ram_lies : (a n : ℕ) → IsTrue (lies NsRam a n) → (536870912 ≤ a) × (a + n ≤ 537001984)
-unfolding lies
-ram_lies a n h = grind (arith, nat_tests)
-
-pub rom_lies : (a n : ℕ) → IsTrue (lies NsRom a n) → a + n ≤ 262144
-unfolding lies
-rom_lies a n h = grind (arith, nat_tests)
-
-pub ruleset places = (secure_lies, ram_lies, rom_lies, with_size)
+-- a text that holds nothing
+pub script_none : (text : List ℕ) → length text ≡ 0 → script_of text ≡ Err 1
+unfolding script_of lines
+script_none [] h = refl
+script_none (x ∷ xs) h = absurd (omega arith)
 
 step_opens : (k : ℕ) (s : Script) (line : List ℕ) (ls more : List (List ℕ)) (o : Option Script) → ls ≡ line ∷ more → with_line line s ≡ o → script_from k s ls ≡ or_bad k o (λ t. script_from (k + 1) t more)
 step_opens k s line ls more o e f = ap (script_from k s) e ∙ ap (λ o. or_bad k o (λ t. script_from (k + 1) t more)) f

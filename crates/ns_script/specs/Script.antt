@@ -1,8 +1,8 @@
 -- What a script says.
-use Rattle.std.specs.Prelude.{◌≡◌, ℕ, ◌+◌, ◌-◌, Bool, true, false, ◌&&◌, ◌||◌, nat_le, ◌==◌, List, [], ◌∷◌, ◌++◌, length, take, drop, slice_index, IsTrue, replicate, codes, bytes_eq, Option, Some, None, Result, Ok, Err, if◌then◌else◌}
+use Rattle.std.specs.Prelude.{◌≡◌, ℕ, ◌+◌, ◌-◌, ◌≤◌, Bool, true, false, ◌&&◌, ◌||◌, nat_le, ◌==◌, List, [], ◌∷◌, ◌++◌, length, take, drop, slice_index, replicate, codes, bytes_eq, Option, Some, None, Result, Ok, Err, if◌then◌else◌}
 use Rattle.ns_types.specs.declared.turn.Start.{Start}
 use Rattle.ns_types.specs.declared.turn.Turn.{Turn}
-use Rattle.ns_types.specs.Platform.{row, lies_in}
+use Rattle.ns_types.specs.Platform.{row}
 use Rattle.ns_script.specs.declared.line.Line.{Line}
 use Rattle.ns_script.specs.declared.line.Line.TheVariants as line
 use Rattle.ns_script.specs.declared.line.Region.{Region}
@@ -17,11 +17,15 @@ use Rattle.ns_script.specs.Turns.{turn_said}
 unfoldable pub fill_said : List (List ℕ) → Option Line
 fill_said more = one_word more >>= λ h. number h >>= λ n. given_if (nat_le n 255) (line.Fill n)
 
--- n bytes from an address lie in the region; Secure RAM is two rows, one behind the other
-unfoldable pub lies : Region → ℕ → ℕ → Bool
-lies SecureRam a n = nat_le (row 4).from a && nat_le (a + n) (row 5).to
-lies NsRam a n = lies_in 1 a n
-lies NsRom a n = lies_in 0 a n
+-- where n bytes from an address stand behind `from`, if all lie before `to`
+unfoldable pub within : ℕ → ℕ → ℕ → ℕ → Option ℕ
+within from to a n = given_if (nat_le from a && nat_le (a + n) to) (a - from)
+
+-- where n bytes from an address stand in the region, if all lie in it; Secure RAM is two rows, one behind the other
+unfoldable pub place_in : Region → ℕ → ℕ → Option ℕ
+place_in SecureRam a n = within (row 4).from (row 5).to a n
+place_in NsRam a n = within (row 1).from (row 1).to a n
+place_in NsRom a n = within (row 0).from (row 0).to a n
 
 abbrev pub region_of : List ℕ → Option Region
 region_of word =
@@ -34,7 +38,7 @@ abbrev pub put_said : Region → List (List ℕ) → Option Line
 put_said region [] = None
 put_said region (h ∷ more) =
     number h >>= λ a. one_word more >>= λ digits. bytes_in digits >>= λ bytes.
-    given_if (lies region a (length bytes)) (line.Put region a bytes)
+    place_in region a (length bytes) >>= λ place. Some (line.Put region place bytes)
 
 abbrev pub words_said : List (List ℕ) → Option Line
 words_said [] = None
@@ -51,11 +55,11 @@ line_said text = if length text == 0 || slice_index text 0 == 35 then Some line.
 unfoldable pub with_bytes : List ℕ → ℕ → List ℕ → List ℕ
 with_bytes bytes o more = take o bytes ++ more ++ drop (o + length more) bytes
 
--- memory with bytes from an address on
+-- memory with bytes from a place of a region on
 unfoldable pub put : Region → ℕ → List ℕ → Start → Start
-put SecureRam a more s = record s { secure_ram = with_bytes s.secure_ram (a - (row 4).from) more }
-put NsRam a more s = record s { ns_ram = with_bytes s.ns_ram (a - (row 1).from) more }
-put NsRom a more s = record s { ns_rom = with_bytes s.ns_rom (a - (row 0).from) more }
+put SecureRam place more s = record s { secure_ram = with_bytes s.secure_ram place more }
+put NsRam place more s = record s { ns_ram = with_bytes s.ns_ram place more }
+put NsRom place more s = record s { ns_rom = with_bytes s.ns_rom place more }
 
 abbrev pub filled : ℕ → Start → Start
 filled b s = record s { secure_ram = replicate (length s.secure_ram) b }
@@ -64,14 +68,20 @@ filled b s = record s { secure_ram = replicate (length s.secure_ram) b }
 unfoldable pub acted : Line → Script → Option Script
 acted line.Nothing s = Some s
 acted (line.Fill b) s = given_if (length s.turns == 0) (record s { start = filled b s.start })
-acted (line.Put region a bytes) s = given_if (length s.turns == 0) (record s { start = put region a bytes s.start })
+acted (line.Put region place bytes) s = given_if (length s.turns == 0) (record s { start = put region place bytes s.start })
 acted (line.Turn t) s = Some (record s { turns = s.turns ++ t ∷ [] })
 
--- the bytes that a line puts lie in its region
+-- n bytes from a place of a region on lie in it
+abbrev pub Lies : Region → ℕ → ℕ → Type 0
+Lies SecureRam place n = place + n ≤ 106496
+Lies NsRam place n = place + n ≤ 131072
+Lies NsRom place n = place + n ≤ 262144
+
+-- the bytes that a line puts lie in their region
 abbrev pub Fits : Line → Type 0
 Fits line.Nothing = Unit {0}
 Fits (line.Fill b) = Unit {0}
-Fits (line.Put region a bytes) = IsTrue (lies region a (length bytes))
+Fits (line.Put region place bytes) = Lies region place (length bytes)
 Fits (line.Turn t) = Unit {0}
 
 -- what is said so far with what the text of one more line says

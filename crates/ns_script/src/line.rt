@@ -1,6 +1,6 @@
 //! What a line of a script says.
 
-ghost use Rattle.std.specs.Prelude.{◌≡◌, IfOk, IfSome, option_copied};
+ghost use Rattle.std.specs.Prelude.{◌≡◌, ◌≤◌, ◌+◌, IfOk, IfSome, option_copied};
 ghost use Rattle.ns_script.specs.Text.{words_left};
 ghost use Rattle.ns_script.specs.Script as spec;
 
@@ -25,8 +25,8 @@ pub enum Line {
     Nothing,
     /// Each byte of Secure RAM becomes this.
     Fill(u8),
-    /// Bytes of a region, from an address on.
-    Put(Region, u32, Bytes),
+    /// Bytes of a region, from this place of it on.
+    Put(Region, usize, Bytes),
     Turn(Turn),
 }
 
@@ -44,17 +44,39 @@ fn fill_said(words: Option<&[u8]>) -> Option<Line>
     Some(Line::Fill(n as u8))
 }
 
-/// `count` bytes from an address lie in the region.
-#[tactic(auto, unfolding(crate::specs::Script::lies))]
-fn lies(region: Region, at: u32, count: usize) -> bool
-    ensures { result ≡ spec.lies region at count }
+/// Where `count` bytes from an address stand behind `from`, if all lie before `to`.
+#[tactic(auto, unfolding(crate::specs::Script::within))]
+fn within(from: u32, to: u32, at: u32, count: usize) -> Option<usize>
+    ensures value { result ≡ spec.within from to at count }
+    ensures fits { IfSome result (λ place. place + count + from ≤ to) }
 {
-    let (from, to) = match region {
-        Region::SecureRam => (PLATFORM.rows[4].from, PLATFORM.rows[5].to),
-        Region::NsRam => (PLATFORM.rows[1].from, PLATFORM.rows[1].to),
-        Region::NsRom => (PLATFORM.rows[0].from, PLATFORM.rows[0].to),
-    };
-    from <= at && at <= to && count <= (to - at) as usize
+    if from <= at && at <= to && count <= (to - at) as usize {
+        Some((at - from) as usize)
+    } else {
+        None
+    }
+}
+
+/// Where `count` bytes from an address stand in the region, if all lie in it.
+#[tactic(auto, unfolding(crate::specs::Script::place_in))]
+fn place_in(region: Region, at: u32, count: usize) -> Option<usize>
+    ensures value { result ≡ spec.place_in region at count }
+    ensures fits { IfSome result (λ place. spec.Lies region place count) }
+{
+    match region {
+        Region::SecureRam => {
+            let place = within(PLATFORM.rows[4].from, PLATFORM.rows[5].to, at, count)?;
+            Some(place)
+        }
+        Region::NsRam => {
+            let place = within(PLATFORM.rows[1].from, PLATFORM.rows[1].to, at, count)?;
+            Some(place)
+        }
+        Region::NsRom => {
+            let place = within(PLATFORM.rows[0].from, PLATFORM.rows[0].to, at, count)?;
+            Some(place)
+        }
+    }
 }
 
 fn region_of(word: &[u8]) -> Option<Region>
@@ -94,10 +116,10 @@ fn put_said(
     let Some(bytes) = bytes_in(alloc, digits)? else {
         return Ok(None);
     };
-    if !lies(region, at, bytes.len()) {
+    let Some(place) = place_in(region, at, bytes.len()) else {
         return Ok(None);
-    }
-    Ok(Some(Line::Put(region, at, bytes)))
+    };
+    Ok(Some(Line::Put(region, place, bytes)))
 }
 
 /// What a line says, or None where it breaks the grammar.

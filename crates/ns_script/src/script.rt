@@ -1,13 +1,13 @@
 //! Scripts.
 
-ghost use Rattle.std.specs.Prelude.{◌≡◌, ◌≤◌, ◌<◌, ◌+◌, ◌^◌, length, replicate, IsTrue, IfOk, IfSome};
+ghost use Rattle.std.specs.Prelude.{◌≡◌, ◌≤◌, ◌<◌, ◌+◌, ◌^◌, length, replicate, IfOk, IfSome};
 ghost use Rattle.ns_script.specs.Text.{lines};
 ghost use Rattle.ns_script.specs.Script as spec;
 
 use crate::fault::ScriptFault;
 use crate::line::{Line, Region, line_said};
 use crate::text::{is, next_line};
-use cm_base::{Bytes, List, NoMemory, PLATFORM};
+use cm_base::{Bytes, List, NoMemory};
 use ns_types::{Start, Turn};
 use std::alloc::Global;
 
@@ -29,32 +29,24 @@ fn write_bytes(to: &mut Bytes, at: usize, more: &[u8])
     requires { at + length more.now ≤ length to.old }
     ensures { to.new ≡ spec.with_bytes to.old at more.now }
 {
+    let _room = to.len();
     for (i, byte) in more.iter().enumerate() {
         to.set(at + i, *byte);
     }
 }
 
-/// Memory with bytes from an address on.
-#[tactic(auto, unfolding(crate::specs::Script::put, crate::specs::Script::lies), using(crate::proofs::ScriptLaws::sizes))]
-fn put(region: Region, at: u32, more: &[u8], start: &mut Start)
-    requires lies { IsTrue (spec.lies region at (length more.now)) }
+/// Memory with bytes from a place of a region on.
+#[tactic(auto, unfolding(crate::specs::Script::put), using(crate::proofs::ScriptLaws::sizes))]
+fn put(region: Region, place: usize, more: &[u8], start: &mut Start)
+    requires lies { spec.Lies region place (length more.now) }
     requires whole { spec.HasRegions start.old }
-    ensures after { start.new ≡ spec.put region at more.now start.old }
+    ensures after { start.new ≡ spec.put region place more.now start.old }
     ensures whole { spec.HasRegions start.new }
 {
     match region {
-        Region::SecureRam => {
-            let place = (at - PLATFORM.rows[4].from) as usize;
-            write_bytes(&mut start.secure_ram, place, more);
-        }
-        Region::NsRam => {
-            let place = (at - PLATFORM.rows[1].from) as usize;
-            write_bytes(&mut start.ns_ram, place, more);
-        }
-        Region::NsRom => {
-            let place = (at - PLATFORM.rows[0].from) as usize;
-            write_bytes(&mut start.ns_rom, place, more);
-        }
+        Region::SecureRam => write_bytes(&mut start.secure_ram, place, more),
+        Region::NsRam => write_bytes(&mut start.ns_ram, place, more),
+        Region::NsRom => write_bytes(&mut start.ns_rom, place, more),
     }
 }
 
@@ -71,7 +63,8 @@ fn zeros(alloc: Global, n: usize) -> Result<Bytes, NoMemory>
     ensures value { IfOk result (λ x. x ≡ spec.zeros n) }
     ensures sized { IfOk result (λ x. length x ≡ n) }
 {
-    repeated(alloc, 0, n)
+    let bytes = repeated(alloc, 0, n)?;
+    Ok(bytes)
 }
 
 /// What a script says before its first line.
@@ -114,11 +107,11 @@ fn acted(alloc: Global, said: Line, script: Script) -> Result<Option<Script>, No
             let n = start.secure_ram.len();
             start.secure_ram = repeated(alloc, byte, n)?;
         }
-        Line::Put(region, at, bytes) => {
+        Line::Put(region, place, bytes) => {
             if !is_early {
                 return Ok(None);
             }
-            put(region, at, bytes.as_slice(), &mut start);
+            put(region, place, bytes.as_slice(), &mut start);
         }
         Line::Turn(turn) => turns.push(turn)?,
     }

@@ -138,10 +138,10 @@ fn pairs(alloc: Global, word: &[u8]) -> Result<Option<Bytes>, NoMemory>
     let mut found = Bytes::from_vec(Vec::with_capacity(alloc, word.len() / 2)?);
     let mut rest = word;
     while rest.len() >= 2 {
-        let Some(byte) = byte_in(rest[0], rest[1]) else {
-            return Ok(None);
-        };
-        found.push(byte)?;
+        match byte_in(rest[0], rest[1]) {
+            Some(byte) => found.push(byte)?,
+            None => return Ok(None),
+        }
         let (_, more) = rest.split_at(2);
         rest = more;
     }

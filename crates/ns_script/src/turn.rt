@@ -120,10 +120,10 @@ fn settings(alloc: Global, words: Option<&[u8]>) -> Result<Option<List<Setting>>
     let mut rest = words;
     while let Some(text) = rest {
         let (word, more) = next_word(text);
-        let Some(said) = word_said(word) else {
-            return Ok(None);
-        };
-        found.push(said)?;
+        match word_said(word) {
+            Some(said) => found.push(said)?,
+            None => return Ok(None),
+        }
         rest = more;
     }
     Ok(Some(found))
