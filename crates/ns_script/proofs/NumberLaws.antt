@@ -78,4 +78,5 @@ onto_none None = refl
 onto_none (Some more) = refl
 
 pub ruleset numbers = (digits_next, digits_bad, digits_end, digits_fit, digits_room, digits_grow)
+
 pub ruleset many = (pairs_next, pairs_bad, pairs_end, pairs_odd, onto_none)

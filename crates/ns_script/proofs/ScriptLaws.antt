@@ -23,7 +23,7 @@ write_next to at more i fits lt =
     let two = seam (take at to ++ take i more) (get_or to (at + i) 0) (drop (at + i + 1) to) (at + i) (get_or more i 0) long in
     let sum : at + i + 1 ≡ at + (i + 1) = omega arith in
     let three : ((take at to ++ take i more) ++ get_or more i 0 ∷ []) ++ drop (at + i + 1) to ≡ (take at to ++ take (i + 1) more) ++ drop (at + (i + 1)) to =
-      ap (λ l. l ++ drop (at + i + 1) to) (append_assoc (take at to) (take i more) (get_or more i 0 ∷ []) ∙ ap (λ l. take at to ++ l) (sym (take_more more i 0 lt))) ∙ ap (λ n. (take at to ++ take (i + 1) more) ++ drop n to) sum in
+    ap (λ l. l ++ drop (at + i + 1) to) (append_assoc (take at to) (take i more) (get_or more i 0 ∷ []) ∙ ap (λ l. take at to ++ l) (sym (take_more more i 0 lt))) ∙ ap (λ n. (take at to ++ take (i + 1) more) ++ drop n to) sum in
     ap (λ l. slice_set l (at + i) (get_or more i 0)) one ∙ two ∙ three ∙ sym (with_front to at more (i + 1) (omega arith))
 
 pub write_none : (to : List ℕ) (at : ℕ) (more : List ℕ) → to ≡ with_bytes to at (take 0 more)
@@ -76,4 +76,5 @@ step_end k s [] r e h = sym h
 step_end k s (x ∷ xs) r e h = absurd (omega arith)
 
 pub ruleset steps = (step_next, step_bad, step_end)
+
 pub ruleset wholes = (step_end)

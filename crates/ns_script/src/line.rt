@@ -95,11 +95,7 @@ fn region_of(word: &[u8]) -> Option<Region>
 }
 
 /// A region's name, with the words behind it.
-fn put_said(
-    alloc: Global,
-    region: Region,
-    words: Option<&[u8]>,
-) -> Result<Option<Line>, NoMemory>
+fn put_said(alloc: Global, region: Region, words: Option<&[u8]>) -> Result<Option<Line>, NoMemory>
     ensures value { IfOk result (λ x. x ≡ spec.put_said region (words_left (option_copied words.entry))) }
     ensures fits { IfOk result (λ x. IfSome x spec.Fits) }
 {

@@ -13,7 +13,9 @@ use std::alloc::Global;
 
 /// The bytes of Secure RAM, Non-secure RAM and Non-secure ROM.
 const SECURE_RAM: usize = 106_496;
+
 const NS_RAM: usize = 131_072;
+
 const NS_ROM: usize = 262_144;
 
 /// What the lines so far say.

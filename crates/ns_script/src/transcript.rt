@@ -111,13 +111,7 @@ fn push_decimal(alloc: Global, out: &mut Bytes, n: u8) -> Result<(), NoMemory>
 }
 
 #[tactic(auto, unfolding(crate::specs::Transcript::wrote_line))]
-fn push_wrote(
-    alloc: Global,
-    out: &mut Bytes,
-    at: u32,
-    size: u8,
-    value: u32,
-) -> Result<(), NoMemory>
+fn push_wrote(alloc: Global, out: &mut Bytes, at: u32, size: u8, value: u32) -> Result<(), NoMemory>
     ensures { OnOk result (out.new ≡ out.old ++ spec.wrote_line at size value) }
 {
     push_text(out, "wrote at=")?;

@@ -12,9 +12,13 @@ use std::alloc::Global;
 
 /// How many registers a turn can name: r0 to r12, lr, flags, msp, psp.
 const REGISTERS: u32 = 17;
+
 const LR: u32 = 13;
+
 const FLAGS: u32 = 14;
+
 const MSP: u32 = 15;
+
 const PSP: u32 = 16;
 
 /// What a word of a turn says.
