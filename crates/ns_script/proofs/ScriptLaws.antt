@@ -1,8 +1,8 @@
 -- Bytes written one by one, and lines read one by one.
-use Rattle.std.proofs.Common.{◌≡◌, ℕ, zero, suc, ◌+◌, ◌-◌, ◌<◌, ◌≤◌, Bool, true, false, cond, List, [], ◌∷◌, ◌++◌, length, take, drop, get_or, slice_set, replicate, Option, Some, None, Result, Ok, Err, refl, sym, ap, ◌∙◌, subst, append_assoc, length-append, length-drop, add-zero, arith}
+use Rattle.std.proofs.Common.{◌≡◌, ℕ, ◌+◌, ◌<◌, ◌≤◌, List, [], ◌∷◌, ◌++◌, length, take, drop, get_or, slice_set, replicate, Option, Some, None, Result, Ok, Err, refl, sym, ap, ◌∙◌, subst, append_assoc, length-append, length-drop, add-zero, arith}
 use Rattle.std.proofs.Math.Seq.{set-append_seam}
 use Rattle.std.proofs.Math.ListN.{length-set}
-use Rattle.std.proofs.lemmas.List.{drop_more, drop_all, take_all, take_more, append-nil, length-replicate, take-append-drop, length-take-le}
+use Rattle.std.proofs.lemmas.List.{drop_more, take_all, take_more, append-nil, length-replicate, take-append-drop, length-take-le}
 use Rattle.ns_script.specs.declared.script.Script.{Script}
 use Rattle.ns_script.specs.Text.{lines}
 use Rattle.ns_script.specs.Script.{with_bytes, zeros, or_bad, with_line, script_from, script_of}

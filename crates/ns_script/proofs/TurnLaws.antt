@@ -1,10 +1,9 @@
 -- Names, settings, values and items, one by one.
-use Rattle.std.proofs.Common.{◌≡◌, ℕ, zero, suc, ◌+◌, ◌<◌, ◌≤◌, Bool, true, false, cond, List, [], ◌∷◌, ◌++◌, length, take, drop, get_or, bytes_eq, Option, Some, None, refl, sym, ap, ◌∙◌, subst, append_assoc, arith}
+use Rattle.std.proofs.Common.{◌≡◌, ℕ, suc, ◌+◌, ◌<◌, ◌≤◌, Bool, true, false, cond, List, [], ◌∷◌, ◌++◌, length, drop, get_or, bytes_eq, Option, Some, None, refl, sym, ap, ◌∙◌, append_assoc, arith}
 use Rattle.std.specs.Option.{option_and_then, option_map, option_to_list, unwrap_or}
 use Rattle.std.proofs.lemmas.List.{drop_more, drop_all, append-nil}
 use Rattle.ns_types.specs.declared.turn.Item.{Item}
 use Rattle.ns_script.specs.declared.turn.Setting.{Setting}
-use Rattle.ns_script.specs.Text.{words, words_left}
 use Rattle.ns_script.specs.Turns.{names, place_from, place_of, word_said, settings, is_again, each_once, value_at, value_of, item_in, items_of}
 
 pub names_len : length names ≡ 17
