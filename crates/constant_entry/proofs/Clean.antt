@@ -63,8 +63,8 @@ show-append (x ∷ a) b = ap (λ l. shown_of enters_first x.event x.mark ++ l) (
 clean_emit : (e : CEvent) (m : Mark) (w : World) → IsClean w → is_clean (events_shown (shown_of enters_first e m)) ≡ true → IsClean (emit e m w)
 clean_emit e m w h q = record {
   by =
-    ap is_clean (ap events_shown (show-append w.events (record { event = e; mark = m } ∷ [])) ∙ shown-append (show enters_first w.events) (show enters_first (record { event = e; mark = m } ∷ [])))
-    ∙ clean_more (events_shown (show enters_first w.events)) _ h.by (ap is_clean (shown-append (shown_of enters_first e m) []) ∙ clean_more (events_shown (shown_of enters_first e m)) [] q refl);
+      ap is_clean (ap events_shown (show-append w.events (record { event = e; mark = m } ∷ [])) ∙ shown-append (show enters_first w.events) (show enters_first (record { event = e; mark = m } ∷ [])))
+      ∙ clean_more (events_shown (show enters_first w.events)) _ h.by (ap is_clean (shown-append (shown_of enters_first e m) []) ∙ clean_more (events_shown (shown_of enters_first e m)) [] q refl);
 }
 
 clean_given : (g : Goes) (e : CEvent) (v : Option View) → is_clean (events_shown (given_if g e v)) ≡ true

@@ -4,3 +4,4 @@ pub mod Views
 pub mod Refine
 pub mod Whole
 pub mod Clean
+pub mod Placed

@@ -4,7 +4,7 @@ use Rattle.std.specs.Prelude.{eqb, ltb, leb, ◌&&◌, ◌||◌, not, min, take,
 use Rattle.std.proofs.lemmas.Bool.Decides.{nat_tests}
 use Rattle.cm_base.specs.declared.stop.Stop.{Stop}
 use Rattle.cm_base.specs.declared.stop.Stop.TheVariants as stop
-use Rattle.v8m_isa.specs.Table.{size_of}
+use Rattle.v8m_isa.specs.Table.{size_of, opcode_of, row_of}
 use Rattle.v8m_isa.specs.declared.instr.Instr.TheVariants.{Bxns, B}
 use Rattle.ns_types.specs.declared.goes.Goes.{Goes}
 use Rattle.ns_types.specs.declared.goes.Goes.TheVariants as goes
@@ -32,7 +32,7 @@ use Rattle.ns_turns.specs.Run as m
 use Rattle.ns_turns.specs.Run.{ends, after, event_of}
 use Rattle.v8m_core.proofs.Runs.{does, has_front, has_back}
 use Rattle.ns_turns.proofs.RunLaws.{run_step, run_turn, run_waits, run_comes, run_spent}
-use Rattle.v8m_core.proofs.Gates.{aligned_even, aligned_twice}
+use Rattle.v8m_core.proofs.GateLaws.{aligned_even, aligned_twice}
 use Rattle.constant_entry.specs.Code.{entry_front, entry_place}
 use Rattle.constant_entry.specs.Shows.{first_veneer, GivesConstant}
 use Rattle.constant_entry.specs.Meaning.{enters_first, gives, need}
@@ -53,10 +53,10 @@ return_quiet : (rom : List ℕ) (s : State) (w : World) → IsQuiet s w → retu
 unfolding return_to return_stop is_readable load
 return_quiet rom s w q =
     let test : ℕ → ℕ → Option Stop = λ p x.
-      cond (not (eqb (p % 8) 0)) (Some stop.BadState)
-      (cond (not (is_readable p 4 && is_readable (p + 4) 4)) (Some stop.Unmapped)
-      (cond (not (eqb (x % 512) 0)) (Some stop.ReturnFault)
-      (cond (not (is_in_rom (aligned 2 (load 4 p rom s.memory)))) (Some stop.BadState) None))) in
+    cond (not (eqb (p % 8) 0)) (Some stop.BadState)
+    (cond (not (is_readable p 4 && is_readable (p + 4) 4)) (Some stop.Unmapped)
+    (cond (not (eqb (x % 512) 0)) (Some stop.ReturnFault)
+    (cond (not (is_in_rom (aligned 2 (load 4 p rom s.memory)))) (Some stop.BadState) None))) in
     let at_sp : return_stop rom s ≡ test 805404664 (word_at s.memory.secure_ram 98300) = ap (λ p. test p (load 4 (p + 4) rom s.memory)) q.sp in
     ap (λ o. unless o s (went (returned (aligned 2 (load 4 s.cpu.regs.sp rom s.memory)) s))) (at_sp ∙ ap (test 805404664) q.seal)
 
@@ -139,13 +139,13 @@ bxns_arrives rom n h v s even =
   where
     pick : (b : Bool) → eqb v function_return ≡ b → cond b (return_to rom s) (arrived rom (goes_m (eqb v first_veneer) v) v (what.Given (seen s.cpu v)) s) ≡ arrived rom (goes_m (eqb v first_veneer) v) v (what.Given (seen s.cpu v)) s
     pick true e =
-      let is : v ≡ function_return = grind (arith, nat_tests) in
-      ap (λ x. arrived rom (goes_m (eqb x first_veneer) x) v (what.Given (seen s.cpu v)) s) (sym is)
+        let is : v ≡ function_return = grind (arith, nat_tests) in
+        ap (λ x. arrived rom (goes_m (eqb x first_veneer) x) v (what.Given (seen s.cpu v)) s) (sym is)
     pick false e = refl
 
 -- from the gateway to the entry's BXNS
 enter_runs : (rom : List ℕ) (n : ℕ) → GivesConstant rom n → (ts : List Turn) (s : State) (k : ℕ) (d : Done) → bxns rom (aligned 2 s.cpu.regs.lr) (answering n (record (entered first_veneer s) { cpu = record (entered first_veneer s).cpu { pc = entry_place } })) ≡ d → m.run_of rom (suc (7 + suc k)) ts (entered first_veneer s) ≡ after d (m.run_of rom k ts d.state)
-unfolding size_of effect_of apply
+unfolding size_of opcode_of row_of effect_of apply
 enter_runs rom n h ts s k d e =
     let u2 = entered first_veneer s in
     let u3 : State = record u2 { cpu = record u2.cpu { pc = entry_place } } in
@@ -167,7 +167,7 @@ events_shown-append (x ∷ a) b = ap (λ l. x.event ∷ l) (events_shown-append 
 
 -- what a hand-over behind the entry shows is the view of its result
 seen_result : (n exit : ℕ) (kept : List ℕ) (s : State) (w : World) → IsQuiet s w → regs_kept s ≡ kept → aligned 2 s.cpu.regs.lr ≡ exit
-  → seen (answering n (record (entered first_veneer s) { cpu = record (entered first_veneer s).cpu { pc = entry_place } })).cpu exit ≡ view (in_four (n ∷ [])) kept 0 exit exit (mark_at exit kept w)
+    → seen (answering n (record (entered first_veneer s) { cpu = record (entered first_veneer s).cpu { pc = entry_place } })).cpu exit ≡ view (in_four (n ∷ [])) kept 0 exit exit (mark_at exit kept w)
 seen_result n exit kept s w q k e =
     let all : List ℕ → ℕ → ℕ → ℕ → View = λ r l x y. record { r = n ∷ 0 ∷ 0 ∷ 0 ∷ (r ++ 0 ∷ []); lr = l; pc = exit; nzcvq = 0; msp_ns = x; psp_ns = y } in
     ap (λ r. all r (aligned 2 s.cpu.regs.lr) s.cpu.msp_ns s.cpu.psp_ns) k
@@ -182,30 +182,36 @@ module _ (rom : List ℕ) (n : ℕ) (h : GivesConstant rom n) (turns deep fuel :
 
   abbrev pub Arrives : ℕ → Goes → Goes → ℕ → List ℕ → Stepped → State → World → ℕ → List ℕ → ℕ → Type 0
   Arrives left gm gc exit kept show s w least args a =
-    Plays (λ k. after (arrived rom gm a show s) (m.run_of rom k w.turns (arrived rom gm a show s).state)) (shows_at show gc) w least (chain enters_first (gives n deep) (phase enters_first (gives n deep) turns fuel) exit kept left gc args w)
+      Plays (λ k. after (arrived rom gm a show s) (m.run_of rom k w.turns (arrived rom gm a show s).state)) (shows_at show gc) w least (chain enters_first (gives n deep) (phase enters_first (gives n deep) turns fuel) exit kept left gc args w)
 
   -- at no entry
   arrives_outside : Phases → (left a exit : ℕ) (kept args : List ℕ) (show : Stepped) (s : State) (w : World) (least : ℕ) → length w.turns ≤ fuel → least ≤ turns → least ≤ deep → IsQuiet s w → Arrives left (goes_outside a) (goes_outside a) exit kept show s w least args a
   arrives_outside phases left a exit kept args show s w least long few few_deep q =
-    outside_cases (λ g. Arrives left g g exit kept show s w least args a) (back left) (turn left) (wrong left) (astray left) a
+      outside_cases (λ g. Arrives left g g exit kept show s w least args a) (back left) (turn left) (wrong left) (astray left) a
     where
       sealed : Plays (λ k. after (return_to rom s) (m.run_of rom k w.turns (return_to rom s).state)) [] w least (crun.stopped stop.ReturnFault w)
       sealed = subst (λ (d : Done). Plays (λ k. after d (m.run_of rom k w.turns d.state)) [] w least (crun.stopped stop.ReturnFault w)) (sym (return_quiet rom s w q)) (stop_plays rom w.turns stop.ReturnFault s w least)
+
       gave : (x : ℕ) → Plays (λ k. after (return_to rom s) (m.run_of rom k w.turns (return_to rom s).state)) [] w least (Gave x w)
       gave x = let p = sealed in record { more = p.more; n = p.n; events = p.events; list = p.list; ended = p.ended; spent = p.spent }
+
       back : (left : ℕ) → Arrives left goes.Return goes.Return exit kept show s w least args a
       back zero = gave _
       back (suc left) = gave _
+
       over : Plays (λ k. after (record { state = handed a s; what = show }) (m.run_of rom k w.turns (handed a s))) (event_of show) w least (phase enters_first (gives n deep) turns fuel w)
       over =
-        let p = phases w (handed a s) least long few few_deep refl (record { sp = q.sp; seal = q.seal; ram = q.ram; msp = q.msp; psp = q.psp }) in
-        record { more = p.more; n = p.n; events = p.events; list = ap (λ l. event_of show ++ l) p.list; ended = p.ended; spent = p.spent }
+          let p = phases w (handed a s) least long few few_deep refl (record { sp = q.sp; seal = q.seal; ram = q.ram; msp = q.msp; psp = q.psp }) in
+          record { more = p.more; n = p.n; events = p.events; list = ap (λ l. event_of show ++ l) p.list; ended = p.ended; spent = p.spent }
+
       turn : (left : ℕ) → Arrives left goes.Turn goes.Turn exit kept show s w least args a
       turn zero = over
       turn (suc left) = over
+
       wrong : (left : ℕ) → Arrives left goes.EntryPoint goes.EntryPoint exit kept show s w least args a
       wrong zero = stop_plays rom w.turns stop.EntryPoint s w least
       wrong (suc left) = stop_plays rom w.turns stop.EntryPoint s w least
+
       astray : (left : ℕ) → Arrives left goes.Astray goes.Astray exit kept show s w least args a
       astray zero = stop_plays rom w.turns stop.Astray s w least
       astray (suc left) = stop_plays rom w.turns stop.Astray s w least
@@ -213,57 +219,73 @@ module _ (rom : List ℕ) (n : ℕ) (h : GivesConstant rom n) (turns deep fuel :
   -- a bound that is used up before the gateway's first instruction
   no_step : (a : ℕ) (s : State) (w : World) (least : ℕ) → least ≤ 0 → Plays (λ k. after (went (entered a s)) (m.run_of rom k w.turns (entered a s))) [] w least (Over end.Spent w)
   no_step a s w least few =
-    let stops = run_spent rom w.turns (entered a s) refl in
-    record { more = []; n = 0; events = sym (append_none w.events); list = ap (λ (x : Events). x.list) stops; ended = λ ne. absurd (ne refl); spent = λ x. (ap (λ (x : Events). x.end) stops, few) }
+      let stops = run_spent rom w.turns (entered a s) refl in
+      record { more = []; n = 0; events = sym (append_none w.events); list = ap (λ (x : Events). x.list) stops; ended = λ ne. absurd (ne refl); spent = λ x. (ap (λ (x : Events). x.end) stops, few) }
 
   -- the entry, from its gateway on, where its hand-over goes on as onward says
   enters : (left exit : ℕ) (kept args : List ℕ) (hands : Stepped) (s : State) (w : World) (least : ℕ) → length w.turns ≤ fuel → least ≤ deep → IsQuiet s w → regs_kept s ≡ kept → aligned 2 s.cpu.regs.lr ≡ exit
-    → ((hands : Stepped) (t : State) (v : World) → length v.turns ≤ fuel → IsQuiet t v → regs_kept t ≡ kept → aligned 2 t.cpu.regs.lr ≡ exit → Arrives left (goes_m (eqb exit first_veneer) exit) (goes_c (eqb exit first_veneer) exit) exit kept hands t v (least - 1) (in_four (n ∷ [])) exit)
-    → Arrives (suc left) (goes.Enter first_veneer) (goes.Enter 0) exit kept hands s w least args first_veneer
+      → ((hands : Stepped) (t : State) (v : World) → length v.turns ≤ fuel → IsQuiet t v → regs_kept t ≡ kept → aligned 2 t.cpu.regs.lr ≡ exit → Arrives left (goes_m (eqb exit first_veneer) exit) (goes_c (eqb exit first_veneer) exit) exit kept hands t v (least - 1) (in_four (n ∷ [])) exit)
+      → Arrives (suc left) (goes.Enter first_veneer) (goes.Enter 0) exit kept hands s w least args first_veneer
   enters left exit kept args hands s w least long few_deep q k e onward = split deep refl
     where
       even : exit % 2 ≡ 0
       even = ap (λ x. x % 2) (sym e) ∙ aligned_even s.cpu.regs.lr
+
       t2 : State
       t2 = answering n (record (entered first_veneer s) { cpu = record (entered first_veneer s).cpu { pc = entry_place } })
+
       u : World
       u = reach need w
+
       beside : Mark
       beside = mark_at exit kept u
+
       w2 : World
       w2 = emit (c.Result 0 n) beside u
+
       b2 : Bool
       b2 = eqb exit first_veneer
+
       hand : Stepped
       hand = what.Given (seen t2.cpu exit)
+
       next : Done
       next = arrived rom (goes_m b2 exit) exit hand t2
+
       leads : bxns rom (aligned 2 s.cpu.regs.lr) t2 ≡ next
       leads = ap (λ v. bxns rom v t2) e ∙ bxns_arrives rom n h exit t2 even
+
       rest : Arrives left (goes_m b2 exit) (goes_c b2 exit) exit kept hand t2 w2 (least - 1) (in_four (n ∷ [])) exit
       rest = onward hand t2 w2 long (record { sp = q.sp; seal = q.seal; ram = q.ram; msp = q.msp; psp = q.psp }) k (ap (aligned 2) e ∙ aligned_twice exit even)
+
       goes_there : goes_of enters_first exit ≡ goes_c b2 exit
       goes_there = goes_of_is exit ∙ ap (λ x. goes_c (eqb x first_veneer) x) (aligned_twice exit even)
+
       view_is : seen t2.cpu exit ≡ view (in_four (n ∷ [])) kept 0 exit exit beside
       view_is = seen_result n exit kept s u (record { sp = q.sp; seal = q.seal; ram = q.ram; msp = q.msp; psp = q.psp }) k e
+
       shows : shows_at hand (goes_c b2 exit) ≡ events_shown (shown_of enters_first (c.Result 0 n) beside)
       shows = ap (shows_at hand) (sym goes_there) ∙ shows_given (seen t2.cpu exit) (goes_of enters_first exit) (c.Result 0 n) ∙ ap (λ v. events_shown (given_if (goes_of enters_first exit) (c.Result 0 n) (Some v))) view_is
+
       goal_of : Outcome → Type 0
       goal_of o = Plays (λ k. after (went (entered first_veneer s)) (m.run_of rom k w.turns (entered first_veneer s))) [] w least o
+
       body : ℕ → World → Outcome
       body r x = chain enters_first (gives n deep) (phase enters_first (gives n deep) turns fuel) exit kept left (goes_of enters_first exit) (in_four (r ∷ [])) (emit (c.Result 0 r) (mark_at exit kept x) x)
+
       answer : goal_of (body n u)
       answer =
-        let p = subst (λ g. Plays (λ k. after next (m.run_of rom k w.turns next.state)) (shows_at hand g) w2 (least - 1) (chain enters_first (gives n deep) (phase enters_first (gives n deep) turns fuel) exit kept left g (in_four (n ∷ [])) w2)) (sym goes_there) rest in
-        let steps : m.run_of rom (suc (7 + suc p.n)) w.turns (entered first_veneer s) ≡ after next (m.run_of rom p.n w.turns next.state) = enter_runs rom n h w.turns s p.n next leads in
-        record {
-          more = record { event = c.Result 0 n; mark = beside } ∷ p.more;
-          n = suc (7 + suc p.n);
-          events = p.events ∙ append_assoc w.events (record { event = c.Result 0 n; mark = beside } ∷ []) p.more;
-          list = ap (λ (x : Events). x.list) steps ∙ p.list ∙ ap (λ l. l ++ events_shown (show enters_first p.more)) (ap (shows_at hand) goes_there ∙ shows) ∙ sym (events_shown-append (shown_of enters_first (c.Result 0 n) beside) (show enters_first p.more));
-          ended = λ ne. ap (λ (x : Events). x.end) steps ∙ p.ended ne;
-          spent = λ x. let r = p.spent x in (ap (λ (x : Events). x.end) steps ∙ r.0, omega arith);
-        }
+          let p = subst (λ g. Plays (λ k. after next (m.run_of rom k w.turns next.state)) (shows_at hand g) w2 (least - 1) (chain enters_first (gives n deep) (phase enters_first (gives n deep) turns fuel) exit kept left g (in_four (n ∷ [])) w2)) (sym goes_there) rest in
+          let steps : m.run_of rom (suc (7 + suc p.n)) w.turns (entered first_veneer s) ≡ after next (m.run_of rom p.n w.turns next.state) = enter_runs rom n h w.turns s p.n next leads in
+          record {
+            more = record { event = c.Result 0 n; mark = beside } ∷ p.more;
+            n = suc (7 + suc p.n);
+            events = p.events ∙ append_assoc w.events (record { event = c.Result 0 n; mark = beside } ∷ []) p.more;
+            list = ap (λ (x : Events). x.list) steps ∙ p.list ∙ ap (λ l. l ++ events_shown (show enters_first p.more)) (ap (shows_at hand) goes_there ∙ shows) ∙ sym (events_shown-append (shown_of enters_first (c.Result 0 n) beside) (show enters_first p.more));
+            ended = λ ne. ap (λ (x : Events). x.end) steps ∙ p.ended ne;
+            spent = λ x. let r = p.spent x in (ap (λ (x : Events). x.end) steps ∙ r.0, omega arith);
+          }
+
       split : (d : ℕ) → deep ≡ d → goal_of (crun.then_go (gives n d 0 args w) body)
       split zero none = no_step first_veneer s w least (omega arith)
       split (suc d) some = answer
@@ -271,18 +293,18 @@ module _ (rom : List ℕ) (n : ℕ) (h : GivesConstant rom n) (turns deep fuel :
   -- an arrival at an even address, where the test for the veneer gives b
   pub arrives : Phases → (left : ℕ) (b : Bool) (a : ℕ) → eqb a first_veneer ≡ b → (exit : ℕ) (kept args : List ℕ) (hands : Stepped) (s : State) (w : World) (least : ℕ) → length w.turns ≤ fuel → least ≤ turns → least ≤ deep → least ≤ left → IsQuiet s w → regs_kept s ≡ kept → aligned 2 s.cpu.regs.lr ≡ exit → Arrives left (goes_m b a) (goes_c b a) exit kept hands s w least args a
   arrives phases left false a at exit kept args hands s w least long few few_deep few_left q k e =
-    arrives_outside phases left a exit kept args hands s w least long few few_deep q
+      arrives_outside phases left a exit kept args hands s w least long few few_deep q
   arrives phases zero true a at exit kept args hands s w least long few few_deep few_left q k e =
-    no_step a s w least (omega arith)
+      no_step a s w least (omega arith)
   arrives phases (suc left) true a at exit kept args hands s w least long few few_deep few_left q k e =
-    let here : a ≡ first_veneer = grind (arith, nat_tests) in
-    subst (λ x. Arrives (suc left) (goes.Enter x) (goes.Enter 0) exit kept hands s w least args x) (sym here)
-    (enters left exit kept args hands s w least long few_deep q k e
-    (λ hands' t v long' q' k' e'. arrives phases left (eqb exit first_veneer) exit refl exit kept (in_four (n ∷ [])) hands' t v (least - 1) long' (omega arith) (omega arith) (omega arith) q' k' e'))
+      let here : a ≡ first_veneer = grind (arith, nat_tests) in
+      subst (λ x. Arrives (suc left) (goes.Enter x) (goes.Enter 0) exit kept hands s w least args x) (sym here)
+      (enters left exit kept args hands s w least long few_deep q k e
+      (λ hands' t v long' q' k' e'. arrives phases left (eqb exit first_veneer) exit refl exit kept (in_four (n ∷ [])) hands' t v (least - 1) long' (omega arith) (omega arith) (omega arith) q' k' e'))
 
 -- a turn whose items and branch are known
 turn_is : (rom : List ℕ) (n : ℕ) → GivesConstant rom n → (t : Turn) (s : State) (ram : List ℕ) (d : Done) → s.memory.ns_ram ≡ ram
-  → (let after = acted t.items ram in let u = turned t after.ram s in unless after.stop u (arrived rom (goes_m (eqb (aligned 2 t.target) first_veneer) (aligned 2 t.target)) (aligned 2 t.target) what.Went u)) ≡ d → turn_of rom t s ≡ d
+    → (let after = acted t.items ram in let u = turned t after.ram s in unless after.stop u (arrived rom (goes_m (eqb (aligned 2 t.target) first_veneer) (aligned 2 t.target)) (aligned 2 t.target) what.Went u)) ≡ d → turn_of rom t s ≡ d
 unfolding turn_of
 turn_is rom n h t s ram d same e =
     ap (λ r. let after = acted t.items r in let u = turned t after.ram s in unless after.stop u (arrived rom (goes_in rom t.target) (aligned 2 t.target) what.Went u)) same
@@ -299,8 +321,8 @@ shows_nothing goes.Astray = refl
 
 -- Non-secure code's moves
 pub phase_plays : (rom : List ℕ) (n : ℕ) → GivesConstant rom n → (turns deep fuel : ℕ) (ts : List Turn) (events : List Marked) (peak : ℕ) (memory : Memory) (msp psp : ℕ) (s : State) (least : ℕ) → length ts ≤ fuel → least ≤ turns → least ≤ deep → s.cpu.side ≡ NonSecure
-  → IsQuiet s (record { turns = ts; events = events; peak = peak; memory = memory; msp_ns = msp; psp_ns = psp })
-  → Plays (λ k. m.run_of rom k ts s) [] (record { turns = ts; events = events; peak = peak; memory = memory; msp_ns = msp; psp_ns = psp }) least (phase enters_first (gives n deep) turns fuel (record { turns = ts; events = events; peak = peak; memory = memory; msp_ns = msp; psp_ns = psp }))
+    → IsQuiet s (record { turns = ts; events = events; peak = peak; memory = memory; msp_ns = msp; psp_ns = psp })
+    → Plays (λ k. m.run_of rom k ts s) [] (record { turns = ts; events = events; peak = peak; memory = memory; msp_ns = msp; psp_ns = psp }) least (phase enters_first (gives n deep) turns fuel (record { turns = ts; events = events; peak = peak; memory = memory; msp_ns = msp; psp_ns = psp }))
 phase_plays rom n h turns deep zero [] events peak memory msp psp s least long few few_deep side q =
     let waits = run_waits rom 0 s side in
     record { more = []; n = 0; events = sym (append_none events); list = ap (λ (x : Events). x.list) waits; ended = λ ne. ap (λ (x : Events). x.end) waits; spent = λ x. cc }
@@ -314,28 +336,33 @@ phase_plays rom n h turns deep (suc fuel) (t ∷ ts) events peak memory msp psp 
   where
     w : World
     w = record { turns = t ∷ ts; events = events; peak = peak; memory = memory; msp_ns = msp; psp_ns = psp }
+
     a : ℕ
     a = aligned 2 t.target
+
     b : Bool
     b = eqb a first_veneer
+
     after_of : Done → ℕ → Events
     after_of d k = after d (m.run_of rom k ts d.state)
+
     by_stop : (acts : Acted) → acted t.items memory.ns_ram ≡ acts → (o : Option Stop) → acts.stop ≡ o → Phases rom n h turns deep fuel → Plays (λ k. m.run_of rom k (t ∷ ts) s) [] w least (let u = crun.turned t ts acts.ram w in stop_or o u (chain enters_first (gives n deep) (phase enters_first (gives n deep) turns fuel) (aligned 2 t.lr) (kept_of t) turns (goes_of enters_first t.target) (take 4 t.r) u))
     by_stop acts e (Some x) f phases =
-      let u = turned t acts.ram s in
-      let v = crun.turned t ts acts.ram w in
-      let p = stop_plays rom ts x u v least in
-      let step : turn_of rom t s ≡ stopped x u = turn_is rom n h t s memory.ns_ram (stopped x u) q.ram (ap (λ (y : Acted). unless y.stop (turned t y.ram s) (arrived rom (goes_m b a) a what.Went (turned t y.ram s))) e ∙ ap (λ y. unless y u (arrived rom (goes_m b a) a what.Went u)) f) in
-      let runs = run_turn rom p.n t ts s (stopped x u) side step in
-      record { more = p.more; n = suc p.n; events = p.events; list = ap (λ (y : Events). y.list) runs ∙ p.list; ended = λ ne. ap (λ (y : Events). y.end) runs ∙ p.ended ne; spent = λ y. let r = p.spent y in (ap (λ (y : Events). y.end) runs ∙ r.0, omega arith) }
+        let u = turned t acts.ram s in
+        let v = crun.turned t ts acts.ram w in
+        let p = stop_plays rom ts x u v least in
+        let step : turn_of rom t s ≡ stopped x u = turn_is rom n h t s memory.ns_ram (stopped x u) q.ram (ap (λ (y : Acted). unless y.stop (turned t y.ram s) (arrived rom (goes_m b a) a what.Went (turned t y.ram s))) e ∙ ap (λ y. unless y u (arrived rom (goes_m b a) a what.Went u)) f) in
+        let runs = run_turn rom p.n t ts s (stopped x u) side step in
+        record { more = p.more; n = suc p.n; events = p.events; list = ap (λ (y : Events). y.list) runs ∙ p.list; ended = λ ne. ap (λ (y : Events). y.end) runs ∙ p.ended ne; spent = λ y. let r = p.spent y in (ap (λ (y : Events). y.end) runs ∙ r.0, omega arith) }
     by_stop acts e None f phases =
-      let u = turned t acts.ram s in
-      let v = crun.turned t ts acts.ram w in
-      let d = arrived rom (goes_m b a) a what.Went u in
-      let p0 = arrives rom n h turns deep fuel phases turns b a refl (aligned 2 t.lr) (kept_of t) (take 4 t.r) what.Went u v least (omega arith) few few_deep few (record { sp = q.sp; seal = q.seal; ram = refl; msp = refl; psp = refl }) refl refl in
-      let p = subst (λ g. Plays (λ k. after_of d k) (shows_at what.Went g) v least (chain enters_first (gives n deep) (phase enters_first (gives n deep) turns fuel) (aligned 2 t.lr) (kept_of t) turns g (take 4 t.r) v)) (sym (goes_of_is t.target)) p0 in
-      let step : turn_of rom t s ≡ d = turn_is rom n h t s memory.ns_ram d q.ram (ap (λ (y : Acted). unless y.stop (turned t y.ram s) (arrived rom (goes_m b a) a what.Went (turned t y.ram s))) e ∙ ap (λ y. unless y u (arrived rom (goes_m b a) a what.Went u)) f) in
-      let runs = run_turn rom p.n t ts s d side step in
-      record { more = p.more; n = suc p.n; events = p.events; list = ap (λ (y : Events). y.list) runs ∙ p.list ∙ ap (λ l. l ++ events_shown (show enters_first p.more)) (shows_nothing (goes_of enters_first t.target)); ended = λ ne. ap (λ (y : Events). y.end) runs ∙ p.ended ne; spent = λ y. let r = p.spent y in (ap (λ (y : Events). y.end) runs ∙ r.0, omega arith) }
+        let u = turned t acts.ram s in
+        let v = crun.turned t ts acts.ram w in
+        let d = arrived rom (goes_m b a) a what.Went u in
+        let p0 = arrives rom n h turns deep fuel phases turns b a refl (aligned 2 t.lr) (kept_of t) (take 4 t.r) what.Went u v least (omega arith) few few_deep few (record { sp = q.sp; seal = q.seal; ram = refl; msp = refl; psp = refl }) refl refl in
+        let p = subst (λ g. Plays (λ k. after_of d k) (shows_at what.Went g) v least (chain enters_first (gives n deep) (phase enters_first (gives n deep) turns fuel) (aligned 2 t.lr) (kept_of t) turns g (take 4 t.r) v)) (sym (goes_of_is t.target)) p0 in
+        let step : turn_of rom t s ≡ d = turn_is rom n h t s memory.ns_ram d q.ram (ap (λ (y : Acted). unless y.stop (turned t y.ram s) (arrived rom (goes_m b a) a what.Went (turned t y.ram s))) e ∙ ap (λ y. unless y u (arrived rom (goes_m b a) a what.Went u)) f) in
+        let runs = run_turn rom p.n t ts s d side step in
+        record { more = p.more; n = suc p.n; events = p.events; list = ap (λ (y : Events). y.list) runs ∙ p.list ∙ ap (λ l. l ++ events_shown (show enters_first p.more)) (shows_nothing (goes_of enters_first t.target)); ended = λ ne. ap (λ (y : Events). y.end) runs ∙ p.ended ne; spent = λ y. let r = p.spent y in (ap (λ (y : Events). y.end) runs ∙ r.0, omega arith) }
+
     by_items : (acts : Acted) → acted t.items memory.ns_ram ≡ acts → Phases rom n h turns deep fuel → Plays (λ k. m.run_of rom k (t ∷ ts) s) [] w least (let u = crun.turned t ts acts.ram w in stop_or acts.stop u (chain enters_first (gives n deep) (phase enters_first (gives n deep) turns fuel) (aligned 2 t.lr) (kept_of t) turns (goes_of enters_first t.target) (take 4 t.r) u))
     by_items acts e phases = by_stop acts e acts.stop refl phases

@@ -2,7 +2,8 @@
 use Rattle.std.proofs.Common.{◌≡◌, ◌≢◌, ℕ, zero, suc, ◌+◌, ◌-◌, ◌*◌, ◌/◌, ◌%◌, ◌<◌, ◌≤◌, ◌⊎◌, Bool, true, false, cond, List, [], ◌∷◌, ◌++◌, length, refl, sym, ap, ◌∙◌, subst, ⊎_elim, inl, inr, arith, Option, Some, None}
 use Rattle.std.specs.Prelude.{eqb, ltb, leb, ◌&&◌, ◌||◌, bit_and}
 use Rattle.std.proofs.lemmas.Bool.Decides.{nat_tests}
-use Rattle.v8m_isa.specs.Table.{size_of, code_of}
+use Rattle.v8m_isa.specs.Table.{size_of, code_of, opcode_of, row_of, numbers_of}
+use Rattle.v8m_isa.specs.Form.{word_of, fields_put, put_all, bits_of}
 use Rattle.v8m_isa.specs.declared.instr.Instr.{Instr}
 use Rattle.v8m_isa.specs.declared.instr.Instr.TheVariants.{Bxns, B, Sg}
 use Rattle.ns_types.specs.declared.event.Event.TheVariants as event
@@ -28,7 +29,7 @@ use Rattle.constant_entry.proofs.States.{sealed, handing, answering}
 use Rattle.constant_entry.specs.Shows.{first_veneer, GivesConstant, CallsFirst, started_view, result_view, two_views, ShowsConstant}
 use Rattle.v8m_core.proofs.Runs.{does, straight, comes_on, has_front, has_back}
 use Rattle.ns_turns.proofs.RunLaws.{run_step, run_turn, run_waits, run_comes, comes_secure, fronts}
-use Rattle.v8m_core.proofs.Gates.{word_at_lt, clear_bit_0, aligned_even, store_ns_rom, bxns_hands, turn_enters}
+use Rattle.v8m_core.proofs.GateLaws.{word_at_lt, clear_bit_0, aligned_even, store_ns_rom, bxns_hands, turn_enters}
 use Rattle.constant_entry.proofs.Pieces.{seal_runs, hand_runs, answer_runs}
 
 -- the last step of code that leaves Secure state by BXNS LR
@@ -43,7 +44,7 @@ branches rom s off to h e = does rom s (B off) h ∙ ap (λ p. went (record s { 
 
 -- where SG stands at the first veneer a gateway is open
 pub opens : (rom : List ℕ) → Holds rom first_veneer Sg → is_gateway rom first_veneer ≡ true
-unfolding is_gateway size_of code_of
+unfolding is_gateway size_of code_of opcode_of row_of numbers_of word_of fields_put put_all bits_of
 opens rom h =
     let second : fetched rom (first_veneer + 2) ≡ 59775 = ⊎_elim {C = fetched rom (first_veneer + 2) ≡ 59775} (λ e. cc) (λ p. p.1) h.second in
     let first : fetched rom first_veneer ≡ 59775 = h.first in
@@ -77,8 +78,8 @@ start_lr start s same = ap (λ r. bit_and (word_at r 4) 4294967294) (sealed_ns_r
 
 -- from an entry's gateway back to the caller
 answers : (rom : List ℕ) (n : ℕ) (h : GivesConstant rom n) (t : Turn) (ts : List Turn) (s : State) (k : ℕ) → CallsFirst t → s.cpu.side ≡ NonSecure
-  → (u : State) × (u.cpu.side ≡ NonSecure) × (run_of rom (suc (suc (7 + suc k))) (t ∷ ts) s ≡ after (record { state = u; what = what.Given (result_view t n) }) (run_of rom k ts u))
-unfolding size_of
+    → (u : State) × (u.cpu.side ≡ NonSecure) × (run_of rom (suc (suc (7 + suc k))) (t ∷ ts) s ≡ after (record { state = u; what = what.Given (result_view t n) }) (run_of rom k ts u))
+unfolding size_of opcode_of row_of
 answers rom n h t ts s k calls side =
     let target : aligned 2 t.target ≡ first_veneer = ⊎_elim (λ e. ap (aligned 2) e) (λ e. ap (aligned 2) e) calls.target in
     let u2 = entered first_veneer (turned t s.memory.ns_ram s) in
@@ -87,19 +88,18 @@ answers rom n h t ts s k calls side =
     let v = aligned 2 t.lr in
     let runs : Comes rom 7 u3 t2 = answer_runs rom n u3 (has_front rom entry_place (entry_front n) (Bxns 14 ∷ []) h.entry) in
     let last = has_back rom entry_place (entry_front n) (Bxns 14 ∷ []) h.entry in
-    let hands : step_of rom t2 ≡ record { state = handed v t2; what = what.Given (result_view t n) } = leaves rom t2 v last.0 refl (even_nonsecure t.lr calls.back) (aligned_even t.lr) in
-    (
+    let hands : step_of rom t2 ≡ record { state = handed v t2; what = what.Given (result_view t n) } = leaves rom t2 v last.0 refl (even_nonsecure t.lr calls.back) (aligned_even t.lr) in (
       handed v t2,
       refl,
       run_turn rom (suc (7 + suc k)) t ts s (went u2) side (turn_enters rom t first_veneer s calls.items target (opens rom h.gateway.0))
-      ∙ run_step rom (7 + suc k) ts u2 (went u3) refl (branches rom u2 4290777288 entry_place h.gateway.1.0 refl)
-      ∙ run_comes rom 7 (suc k) ts u3 t2 refl runs
-      ∙ run_step rom k ts t2 (record { state = handed v t2; what = what.Given (result_view t n) }) refl hands,
+          ∙ run_step rom (7 + suc k) ts u2 (went u3) refl (branches rom u2 4290777288 entry_place h.gateway.1.0 refl)
+          ∙ run_comes rom 7 (suc k) ts u3 t2 refl runs
+          ∙ run_step rom k ts t2 (record { state = handed v t2; what = what.Given (result_view t n) }) refl hands,
     )
 
 -- the whole run
 whole : (rom : List ℕ) (n : ℕ) (h : GivesConstant rom n) (start : Start) (t : Turn) → is_nonsecure (word_at start.ns_rom 4) ≡ true → CallsFirst t
-  → machine_run rom start (t ∷ []) (41 + suc (suc (suc (7 + suc 0)))) ≡ record { list = two_views start t n; end = end.Waiting }
+    → machine_run rom start (t ∷ []) (41 + suc (suc (suc (7 + suc 0)))) ≡ record { list = two_views start t n; end = end.Waiting }
 whole rom n h start t in_row calls =
     let s = reset_of rom start in
     let place : s.cpu.pc ≡ start_place = ap (aligned 2) h.reset in

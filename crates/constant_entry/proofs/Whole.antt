@@ -2,7 +2,7 @@
 use Rattle.std.proofs.Common.{◌≡◌, ◌≢◌, ℕ, zero, suc, ◌+◌, ◌-◌, ◌*◌, ◌/◌, ◌%◌, ◌<◌, ◌≤◌, ◌⊎◌, Bool, true, false, cond, List, [], ◌∷◌, ◌++◌, length, refl, sym, ap, ◌∙◌, subst, ⊎_elim, inl, inr, arith, Option, Some, None}
 use Rattle.std.specs.Prelude.{eqb, min}
 use Rattle.v8m_isa.specs.declared.instr.Instr.TheVariants.{Bxns}
-use Rattle.v8m_isa.specs.Table.{size_of}
+use Rattle.v8m_isa.specs.Table.{size_of, opcode_of, row_of}
 use Rattle.ns_types.specs.declared.goes.Goes.{Goes}
 use Rattle.ns_types.specs.declared.event.CEvent.TheVariants as c
 use Rattle.ns_types.specs.declared.event.End.TheVariants as end
@@ -26,7 +26,7 @@ use Rattle.ns_turns.specs.Run as m
 use Rattle.ns_turns.specs.Run.{after, event_of, machine_run}
 use Rattle.ns_turns.specs.Refines.{seen_of, Same, Refines}
 use Rattle.v8m_core.proofs.Runs.{does}
-use Rattle.v8m_core.proofs.Gates.{aligned_even, aligned_twice}
+use Rattle.v8m_core.proofs.GateLaws.{aligned_even, aligned_twice}
 use Rattle.v8m_core.proofs.Words.{same_word, other_word, length-put_word}
 use Rattle.ns_turns.proofs.RunLaws.{run_step, run_comes}
 use Rattle.constant_entry.specs.Code.{start_code, start_place}
@@ -52,7 +52,7 @@ unfolding store
 ram_stands s = refl
 
 pub refines : (rom : List ℕ) (n : ℕ) → GivesConstant rom n → Refines rom enters_first (constant_run n)
-unfolding effect_of apply size_of
+unfolding effect_of apply size_of opcode_of row_of
 refines rom n h start whole ts b =
     let s = reset_of rom start in
     let place : s.cpu.pc ≡ start_place = ap (aligned 2) h.reset in

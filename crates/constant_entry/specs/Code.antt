@@ -1,5 +1,6 @@
 -- The code of a program whose one entry gives a number: the start code, the entry and its gateway.
 use Rattle.std.specs.Prelude.{ℕ, ◌+◌, ◌-◌, ◌/◌, ◌%◌, ◌++◌, List, [], ◌∷◌, replicate, length}
+use Rattle.std.specs.List.{flat_map}
 use Rattle.v8m_isa.specs.declared.instr.Instr.{Instr}
 use Rattle.v8m_isa.specs.declared.instr.Instr.TheVariants.{Mov, Bxns, Udf, Sg, Movw, Movt, Bic, Ldr, Str, B, Msr}
 use Rattle.v8m_core.specs.Code.{code_bytes}
@@ -48,9 +49,12 @@ abbrev pub stop_place : ℕ
 stop_place = 268435688
 
 -- the main stack pointer, the reset address, and 14 times the place of UDF 0, each address with bit 0 set
+abbrev pub vector_words : List ℕ
+vector_words =
+    805404664 ∷ 268435521 ∷ 268435689 ∷ 268435689 ∷ 268435689 ∷ 268435689 ∷ 268435689 ∷ 268435689 ∷ 268435689 ∷ 268435689 ∷ 268435689 ∷ 268435689 ∷ 268435689 ∷ 268435689 ∷ 268435689 ∷ 268435689 ∷ []
+
 abbrev pub vectors : List ℕ
-vectors =
-    le32 805404664 ++ le32 (start_place + 1) ++ le32 (stop_place + 1) ++ le32 (stop_place + 1) ++ le32 (stop_place + 1) ++ le32 (stop_place + 1) ++ le32 (stop_place + 1) ++ le32 (stop_place + 1) ++ le32 (stop_place + 1) ++ le32 (stop_place + 1) ++ le32 (stop_place + 1) ++ le32 (stop_place + 1) ++ le32 (stop_place + 1) ++ le32 (stop_place + 1) ++ le32 (stop_place + 1) ++ le32 (stop_place + 1)
+vectors = flat_map le32 vector_words
 
 -- Secure ROM up to its last used byte: the vectors, the start code, two bytes up to a multiple of 4, the entry and UDF 0
 abbrev pub used_bytes : ℕ → List ℕ

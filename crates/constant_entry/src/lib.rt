@@ -1,18 +1,34 @@
 //! The Secure ROM of a program whose one entry gives a number, and what the machine shows of it.
 #![tactic(auto)]
 
-ghost use Rattle.std.specs.Prelude.{◌≡◌, ◌+◌, ◌<◌, ◌^◌, ◌++◌, List, replicate, OnOk, OnErr, IfOk, IsTrue};
+pub mod laws;
+
+ghost use Rattle.std.specs.Prelude.{◌≡◌, ◌++◌, ◌∷◌, [], replicate, OnOk, IfOk, IsTrue, All};
 ghost use Rattle.v8m_isa.specs.Table.{in_range_of};
-ghost use Rattle.v8m_core.specs.Code.{code_bytes, AllInRange};
+ghost use Rattle.v8m_core.specs.Code.{instr_bytes, code_bytes};
+ghost use Rattle.std.specs.List.{flat_map};
 ghost use Rattle.elf32.specs.Fields.{le32};
-ghost use Rattle.constant_entry.specs.Code.{start_code, entry_code, gateway_code, vectors, used_bytes, gateway_bytes};
+ghost use Rattle.constant_entry.specs.Code.{start_code, entry_code, vector_words, used_bytes, gateway_bytes};
 
 use cm_base::{Bytes, NoMemory};
 use elf32::{put16, put32};
 use std::alloc::Global;
 use v8m_isa::{Instr, encode};
 
-// The number of zero bytes behind the gateway.
+/// The address of the code that an image starts with, and of the one entry's code.
+pub const START: u32 = 0x1000_0040;
+
+pub const ENTRY: u32 = 0x1000_00D0;
+
+/// The address of the one veneer, the first place of the Non-secure callable region.
+pub const VENEER: u32 = 0x103F_F000;
+
+// The first word of the main stack's seal, and the place of the one UDF 0.
+const STACK: u32 = 0x3001_7FF8;
+
+const STOP: u32 = 0x1000_00E8;
+
+// The bytes of the Non-secure callable region behind the one gateway.
 const REST: usize = 4088;
 
 fn start_code() -> [Instr; 42]
@@ -90,7 +106,7 @@ fn entry_code(n: u32) -> [Instr; 8]
 // Appends an instruction.
 fn put_instr(to: &mut Bytes, instr: &Instr) -> Result<(), NoMemory>
     requires { IsTrue (in_range_of instr.now) }
-    ensures { OnOk result (to.new ≡ to.old ++ Rattle.v8m_core.specs.Code.instr_bytes instr.now) }
+    ensures { OnOk result (to.new ≡ to.old ++ instr_bytes instr.now) }
 {
     let code = encode(instr);
     put16(to, code.first)?;
@@ -98,4 +114,89 @@ fn put_instr(to: &mut Bytes, instr: &Instr) -> Result<(), NoMemory>
         put16(to, code.second)?;
     }
     Ok(())
+}
+
+// Appends code.
+fn put_code(to: &mut Bytes, code: &[Instr]) -> Result<(), NoMemory>
+    requires { All (λ i. IsTrue (in_range_of i)) code.now }
+    ensures { OnOk result (to.new ≡ to.old ++ code_bytes code.now) }
+{
+    for instr in code {
+        put_instr(to, instr)?;
+    }
+    Ok(())
+}
+
+// Appends zero bytes.
+fn put_zeros(to: &mut Bytes, n: usize) -> Result<(), NoMemory>
+    ensures { OnOk result (to.new ≡ to.old ++ replicate n 0) }
+{
+    for _done in 0..n {
+        to.push(0)?;
+    }
+    Ok(())
+}
+
+// Appends words, the byte of least worth first.
+fn put_words(to: &mut Bytes, words: &[u32]) -> Result<(), NoMemory>
+    ensures { OnOk result (to.new ≡ to.old ++ flat_map le32 words.now) }
+{
+    for word in words {
+        put32(to, *word)?;
+    }
+    Ok(())
+}
+
+// The vector table: the main stack pointer, the reset address, and the one stop for each exception.
+fn vector_words() -> [u32; 16]
+    ensures { result ≡ vector_words }
+{
+    const EACH: u32 = STOP + 1;
+    [
+        STACK,
+        START + 1,
+        EACH,
+        EACH,
+        EACH,
+        EACH,
+        EACH,
+        EACH,
+        EACH,
+        EACH,
+        EACH,
+        EACH,
+        EACH,
+        EACH,
+        EACH,
+        EACH,
+    ]
+}
+
+/// Secure ROM from its first byte to the last used one, for an entry that gives `n`.
+pub fn used(alloc: Global, n: u32) -> Result<Bytes, NoMemory>
+    ensures { IfOk result (λ bytes. bytes ≡ used_bytes n) }
+{
+    let mut bytes = Bytes::new(alloc);
+    put_words(&mut bytes, &vector_words())?;
+    put_code(&mut bytes, &start_code())?;
+    put_zeros(&mut bytes, 2)?;
+    put_code(&mut bytes, &entry_code(n))?;
+    put_code(&mut bytes, &[Instr::Udf { i: 0 }])?;
+    Ok(bytes)
+}
+
+/// The Non-secure callable region.
+pub fn gateways(alloc: Global) -> Result<Bytes, NoMemory>
+    ensures { IfOk result (λ bytes. bytes ≡ gateway_bytes) }
+{
+    let mut bytes = Bytes::new(alloc);
+    let code = [
+        Instr::Sg,
+        Instr::B {
+            off: ENTRY.wrapping_sub(VENEER + 8),
+        },
+    ];
+    put_code(&mut bytes, &code)?;
+    put_zeros(&mut bytes, REST)?;
+    Ok(bytes)
 }

@@ -4,3 +4,6 @@
 mod running;
 
 pub use running::{play_turn, run};
+
+#[cfg(test)]
+mod tests;

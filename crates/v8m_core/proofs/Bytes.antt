@@ -9,7 +9,7 @@ use Rattle.ns_types.specs.Platform.{is_in_rom}
 use Rattle.ns_types.specs.Memory.{half_at, word_at}
 use Rattle.v8m_core.specs.Step.{fetched}
 use Rattle.v8m_core.specs.Code.{Holds, HasCode, two, instr_bytes, code_bytes, AllInRange}
-use Rattle.v8m_core.proofs.Runs.{size_cases, code_lt}
+use Rattle.v8m_isa.proofs.Laws.{size_of_two_or_four, first-code_of_lt, second-code_of_lt}
 
 -- a halfword where its bytes stand
 pub half_at_seam : (pre post : List ℕ) (h o : ℕ) → h < 65536 → o ≡ length pre → half_at (pre ++ (h % 256 ∷ h / 256 % 256 ∷ post)) o ≡ h
@@ -35,14 +35,14 @@ length_bytes i =
     ⊎_elim
     (λ e. ap (λ n. length (cond (eqb n 2) (two (code_of i).first) (two (code_of i).first ++ two (code_of i).second))) e ∙ sym e)
     (λ e. ap (λ n. length (cond (eqb n 2) (two (code_of i).first) (two (code_of i).first ++ two (code_of i).second))) e ∙ sym e)
-    (size_cases i)
+    (size_of_two_or_four i)
 
 first_stands : (i : Instr) (rom pre post : List ℕ) → rom ≡ pre ++ (instr_bytes i ++ post) → half_at rom (length pre) ≡ (code_of i).first
 first_stands i rom pre post e =
     ⊎_elim
-    (λ s. ap (λ r. half_at r (length pre)) (e ∙ ap (λ n. pre ++ (cond (eqb n 2) (two (code_of i).first) (two (code_of i).first ++ two (code_of i).second) ++ post)) s) ∙ half_at_seam pre post (code_of i).first (length pre) (code_lt i).0 refl)
-    (λ s. ap (λ r. half_at r (length pre)) (e ∙ ap (λ n. pre ++ (cond (eqb n 2) (two (code_of i).first) (two (code_of i).first ++ two (code_of i).second) ++ post)) s) ∙ half_at_seam pre (two (code_of i).second ++ post) (code_of i).first (length pre) (code_lt i).0 refl)
-    (size_cases i)
+    (λ s. ap (λ r. half_at r (length pre)) (e ∙ ap (λ n. pre ++ (cond (eqb n 2) (two (code_of i).first) (two (code_of i).first ++ two (code_of i).second) ++ post)) s) ∙ half_at_seam pre post (code_of i).first (length pre) (first-code_of_lt i) refl)
+    (λ s. ap (λ r. half_at r (length pre)) (e ∙ ap (λ n. pre ++ (cond (eqb n 2) (two (code_of i).first) (two (code_of i).first ++ two (code_of i).second) ++ post)) s) ∙ half_at_seam pre (two (code_of i).second ++ post) (code_of i).first (length pre) (first-code_of_lt i) refl)
+    (size_of_two_or_four i)
 
 second_stands : (i : Instr) (rom pre post : List ℕ) → rom ≡ pre ++ (instr_bytes i ++ post) → (size_of i ≡ 2) ⊎ (half_at rom (length pre + 2) ≡ (code_of i).second)
 second_stands i rom pre post e =
@@ -50,8 +50,8 @@ second_stands i rom pre post e =
     (λ s. inr (
     let turn : pre ++ (two (code_of i).first ++ two (code_of i).second ++ post) ≡ (pre ++ two (code_of i).first) ++ (two (code_of i).second ++ post) = sym (append_assoc pre (two (code_of i).first) (two (code_of i).second ++ post)) in
     let n : length pre + 2 ≡ length (pre ++ two (code_of i).first) = omega (arith, length-append pre (two (code_of i).first)) in
-    ap (λ r. half_at r (length pre + 2)) (e ∙ ap (λ n. pre ++ (cond (eqb n 2) (two (code_of i).first) (two (code_of i).first ++ two (code_of i).second) ++ post)) s ∙ turn) ∙ half_at_seam (pre ++ two (code_of i).first) post (code_of i).second (length pre + 2) (code_lt i).1 n))
-    (size_cases i)
+    ap (λ r. half_at r (length pre + 2)) (e ∙ ap (λ n. pre ++ (cond (eqb n 2) (two (code_of i).first) (two (code_of i).first ++ two (code_of i).second) ++ post)) s ∙ turn) ∙ half_at_seam (pre ++ two (code_of i).first) post (code_of i).second (length pre + 2) (second-code_of_lt i) n))
+    (size_of_two_or_four i)
 
 pub has_code : (is : List Instr) (rom pre post : List ℕ) → rom ≡ pre ++ (code_bytes is ++ post) → length rom ≤ 4194304 → AllInRange is → HasCode rom (268435456 + length pre) is
 has_code [] rom pre post e fit all = tt
@@ -63,15 +63,15 @@ has_code (i ∷ is) rom pre post e fit all =
     let back : 268435456 + length pre - 268435456 ≡ length pre = omega arith in
     let back2 : 268435456 + length pre + 2 - 268435456 ≡ length pre + 2 = omega arith in
     let total : length rom ≡ length pre + size_of i + length (code_bytes is ++ post) = ap length e'' ∙ length-append (pre ++ instr_bytes i) (code_bytes is ++ post) ∙ ap (λ k. k + length (code_bytes is ++ post)) n in
-    let two_or : 2 ≤ size_of i = ⊎_elim (λ s. omega arith) (λ s. omega arith) (size_cases i) in (
+    let two_or : 2 ≤ size_of i = ⊎_elim (λ s. omega arith) (λ s. omega arith) (size_of_two_or_four i) in (
       record {
         range = all.0;
         place = (let a : 268435456 + length pre < 272629760 = omega arith in grind (arith, nat_tests));
         first = ap (half_at rom) back ∙ first_stands i rom pre (code_bytes is ++ post) e';
         second = ⊎_elim
-        (λ s. inl s)
-        (λ s. ⊎_elim {C = (size_of i ≡ 2) ⊎ ((is_in_rom (268435456 + length pre + 2) ≡ true) × (fetched rom (268435456 + length pre + 2) ≡ (code_of i).second))} (λ t. inl t) (λ h. inr ((let a : 268435456 + length pre + 2 < 272629760 = omega arith in grind (arith, nat_tests)), ap (half_at rom) back2 ∙ h)) (second_stands i rom pre (code_bytes is ++ post) e'))
-        (size_cases i);
+            (λ s. inl s)
+            (λ s. ⊎_elim {C = (size_of i ≡ 2) ⊎ ((is_in_rom (268435456 + length pre + 2) ≡ true) × (fetched rom (268435456 + length pre + 2) ≡ (code_of i).second))} (λ t. inl t) (λ h. inr ((let a : 268435456 + length pre + 2 < 272629760 = omega arith in grind (arith, nat_tests)), ap (half_at rom) back2 ∙ h)) (second_stands i rom pre (code_bytes is ++ post) e'))
+            (size_of_two_or_four i);
       },
       subst (λ p. HasCode rom p is) m (has_code is rom (pre ++ instr_bytes i) post e'' fit all.1),
     )

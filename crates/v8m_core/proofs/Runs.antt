@@ -5,6 +5,7 @@ use Rattle.cm_base.specs.declared.stop.Stop.{Stop}
 use Rattle.cm_base.specs.declared.stop.Stop.TheVariants as stop
 use Rattle.v8m_isa.specs.declared.instr.Instr.{Instr}
 use Rattle.v8m_isa.specs.Table.{Decoded, in_range_of, size_of, code_of, decode_of, is_narrow}
+use Rattle.v8m_isa.proofs.Laws.{decode_of-code_of, decode_of-code_of_narrow, is_narrow-code_of, size_of_two_or_four}
 use Rattle.ns_types.specs.declared.goes.Goes.{Goes}
 use Rattle.ns_types.specs.declared.goes.Goes.TheVariants as goes
 use Rattle.ns_types.specs.declared.state.Cpu.{Cpu}
@@ -18,17 +19,14 @@ use Rattle.v8m_core.specs.declared.effect.Effect.TheVariants as effect
 use Rattle.v8m_core.specs.Step.{Done, went, stopped, unless, fetched, goes_in, seen, arrived, entered, handed, returned, return_stop, return_to, bxns, effect_of, pass, put, write_register, load_stop, store_stop, stored, special, apply, act, act_or, step_of}
 use Rattle.v8m_core.specs.Code.{Holds, HasCode, past, Comes, Follows, Does}
 
--- decoding what was encoded (a law of the instruction table)
+-- decoding what was encoded
 decode-narrow : (i : Instr) → in_range_of i ≡ true → size_of i ≡ 2 → (is_narrow (code_of i).first ≡ true) × (decode_of (code_of i).first 0 ≡ Some (record { instr = i; size = 2 }))
-decode-narrow i r s = ?
+decode-narrow i r s =
+    (is_narrow-code_of i r ∙ ap (λ n. eqb n 2) s, decode_of-code_of_narrow i 0 r s (omega arith) ∙ ap (λ n. let d : Decoded = record { instr = i; size = n } in Some d) s)
+
 decode-wide : (i : Instr) → in_range_of i ≡ true → size_of i ≢ 2 → (is_narrow (code_of i).first ≡ false) × (decode_of (code_of i).first (code_of i).second ≡ Some (record { instr = i; size = size_of i }))
-decode-wide i r s = ?
-
-pub size_cases : (i : Instr) → (size_of i ≡ 2) ⊎ (size_of i ≡ 4)
-size_cases i = ?
-
-pub code_lt : (i : Instr) → ((code_of i).first < 65536) × ((code_of i).second < 65536)
-code_lt i = ?
+decode-wide i r s =
+    (is_narrow-code_of i r ∙ (let four : size_of i ≡ 4 = ⊎_elim (λ e. absurd (s e)) (λ e. e) (size_of_two_or_four i) in ap (λ n. eqb n 2) four), decode_of-code_of i r)
 
 -- a step at an instruction is that instruction's act
 pub does : (rom : List ℕ) (s : State) (i : Instr) → Holds rom s.cpu.pc i → step_of rom s ≡ act rom i (size_of i) s
@@ -37,24 +35,24 @@ does rom s i h =
     let pc = s.cpu.pc in
     let wide : Done = cond (is_in_rom (pc + 2)) (act_or rom (decode_of (fetched rom pc) (fetched rom (pc + 2))) s) (stopped stop.BadState s) in
     let here : step_of rom s ≡ cond (is_narrow (code_of i).first) (act_or rom (decode_of (code_of i).first 0) s) (cond (is_in_rom (pc + 2)) (act_or rom (decode_of (code_of i).first (fetched rom (pc + 2))) s) (stopped stop.BadState s)) =
-      ap (λ t. cond t (cond (is_narrow (fetched rom pc)) (act_or rom (decode_of (fetched rom pc) 0) s) (cond (is_in_rom (pc + 2)) (act_or rom (decode_of (fetched rom pc) (fetched rom (pc + 2))) s) (stopped stop.BadState s))) (stopped stop.BadState s)) h.place
-      ∙ ap (λ a. cond (is_narrow a) (act_or rom (decode_of a 0) s) (cond (is_in_rom (pc + 2)) (act_or rom (decode_of a (fetched rom (pc + 2))) s) (stopped stop.BadState s))) h.first in
+    ap (λ t. cond t (cond (is_narrow (fetched rom pc)) (act_or rom (decode_of (fetched rom pc) 0) s) (cond (is_in_rom (pc + 2)) (act_or rom (decode_of (fetched rom pc) (fetched rom (pc + 2))) s) (stopped stop.BadState s))) (stopped stop.BadState s)) h.place
+    ∙ ap (λ a. cond (is_narrow a) (act_or rom (decode_of a 0) s) (cond (is_in_rom (pc + 2)) (act_or rom (decode_of a (fetched rom (pc + 2))) s) (stopped stop.BadState s))) h.first in
     ⊎_elim
     (λ two.
-      let d = decode-narrow i h.range two in
-      here
-      ∙ ap (λ t. cond t (act_or rom (decode_of (code_of i).first 0) s) (cond (is_in_rom (pc + 2)) (act_or rom (decode_of (code_of i).first (fetched rom (pc + 2))) s) (stopped stop.BadState s))) d.0
-      ∙ ap (λ o. act_or rom o s) d.1 ∙ ap (λ n. act rom i n s) (sym two))
+    let d = decode-narrow i h.range two in
+    here
+    ∙ ap (λ t. cond t (act_or rom (decode_of (code_of i).first 0) s) (cond (is_in_rom (pc + 2)) (act_or rom (decode_of (code_of i).first (fetched rom (pc + 2))) s) (stopped stop.BadState s))) d.0
+    ∙ ap (λ o. act_or rom o s) d.1 ∙ ap (λ n. act rom i n s) (sym two))
     (λ four.
-      let ne : size_of i ≢ 2 = λ e. omega arith in
-      let d = decode-wide i h.range ne in
-      let second = ⊎_elim {C = (is_in_rom (pc + 2) ≡ true) × (fetched rom (pc + 2) ≡ (code_of i).second)} (λ two. absurd (ne two)) (λ x. x) h.second in
-      here
-      ∙ ap (λ t. cond t (act_or rom (decode_of (code_of i).first 0) s) (cond (is_in_rom (pc + 2)) (act_or rom (decode_of (code_of i).first (fetched rom (pc + 2))) s) (stopped stop.BadState s))) d.0
-      ∙ ap (λ t. cond t (act_or rom (decode_of (code_of i).first (fetched rom (pc + 2))) s) (stopped stop.BadState s)) second.0
-      ∙ ap (λ b. act_or rom (decode_of (code_of i).first b) s) second.1
-      ∙ ap (λ o. act_or rom o s) d.1)
-    (size_cases i)
+    let ne : size_of i ≢ 2 = λ e. omega arith in
+    let d = decode-wide i h.range ne in
+    let second = ⊎_elim {C = (is_in_rom (pc + 2) ≡ true) × (fetched rom (pc + 2) ≡ (code_of i).second)} (λ two. absurd (ne two)) (λ x. x) h.second in
+    here
+    ∙ ap (λ t. cond t (act_or rom (decode_of (code_of i).first 0) s) (cond (is_in_rom (pc + 2)) (act_or rom (decode_of (code_of i).first (fetched rom (pc + 2))) s) (stopped stop.BadState s))) d.0
+    ∙ ap (λ t. cond t (act_or rom (decode_of (code_of i).first (fetched rom (pc + 2))) s) (stopped stop.BadState s)) second.0
+    ∙ ap (λ b. act_or rom (decode_of (code_of i).first b) s) second.1
+    ∙ ap (λ o. act_or rom o s) d.1)
+    (size_of_two_or_four i)
 
 pub comes_on : (rom : List ℕ) (m n : ℕ) (s t u : State) → Comes rom m s t → Comes rom n t u → Comes rom (m + n) s u
 comes_on rom zero n s t u a b =

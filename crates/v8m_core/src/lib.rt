@@ -12,3 +12,6 @@ mod turning;
 pub use effect::Effect;
 pub use machine::{Image, Machine};
 pub use stepped::Stepped;
+
+#[cfg(test)]
+mod tests;

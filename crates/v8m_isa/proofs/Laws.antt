@@ -1,10 +1,11 @@
 -- What the crates above know of instructions and their halfwords.
-use Rattle.std.proofs.Common.{◌≡◌, ℕ, ◌+◌, ◌*◌, ◌/◌, ◌%◌, ◌^◌, ◌<◌, ◌≤◌, Bool, true, false, ◌&&◌, ◌⊎◌, refl, sym, ap, ◌∙◌, subst, ⊎_elim, inl, inr, arith, Option, Some, None, IfSome, eq-eqb}
-use Rattle.std.specs.Prelude.{eqb, ltb, option_map, is_some, IfNone}
+use Rattle.std.proofs.Common.{◌≡◌, ℕ, ◌/◌, ◌%◌, ◌^◌, ◌<◌, ◌≤◌, true, false, ◌⊎◌, refl, sym, ap, ◌∙◌, subst, ⊎_elim, inl, inr, arith, Option, Some, None, IfSome, eq-eqb}
+use Rattle.std.specs.Prelude.{eqb, option_map, is_some, IfNone}
 use Rattle.std.proofs.lemmas.Bool.Decides.{nat_tests}
 use Rattle.v8m_isa.specs.declared.instr.Instr.{Instr}
-use Rattle.v8m_isa.specs.Table.{in_range_of, size_of, code_of, Decoded, decode_of, is_of_two_bytes, is_narrow, pair_of, IsReadAs, IsNoInstr}
-use Rattle.v8m_isa.proofs.PieceLaws.{and_parts}
+use Rattle.v8m_isa.specs.Table.{in_range_of, size_of, code_of, Decoded, decode_of, is_of_two_bytes, is_narrow, pair_of, read_by, IsReadAs, IsNoInstr}
+use Rattle.v8m_isa.specs.declared.table.Opcode.{Opcode}
+use Rattle.v8m_isa.specs.Choice.{chosen, choices}
 use Rattle.v8m_isa.proofs.TableLaws as table
 use Rattle.v8m_isa.proofs.TableLaws.{decode-code_of, code_of-decode, size_of_cases, size_by_top}
 
@@ -122,10 +123,24 @@ no_instr a b r e lb = subst (λ q. IfNone q (IsNoInstr a b)) (sym e) (at (decode
         let g = subst (λ x. decode_of x b ≡ Some (record { instr = i; size = size_of i })) r.has_first (decode-code_of i b r.in_range lb has) in
         cc
 
-pub narrow_is : (a : ℕ) (top : ℕ) (r : Option (Instr × ℕ)) → top ≡ a / 2 ^ 11 % 2 ^ 5 → r ≡ option_map pair_of (decode_of a 0) → (ltb top 29 && is_some r) ≡ is_narrow a
+pub chosen_none : (a b : ℕ) → b < 2 ^ 16 → chosen choices a b ≡ None → option_map pair_of (decode_of a b) ≡ None
+chosen_none a b lb e = ap (option_map pair_of) (table.decode_is a b lb ∙ ap (λ c. table.read_of c a b) e)
+
+pub chosen_some : (a b : ℕ) (o : Opcode) → b < 2 ^ 16 → chosen choices a b ≡ Some o → option_map pair_of (decode_of a b) ≡ option_map pair_of (read_by o a b)
+chosen_some a b o lb e = ap (option_map pair_of) (table.decode_is a b lb ∙ ap (λ c. table.read_of c a b) e)
+
+pub narrow_below : (a : ℕ) (r : Option (Instr × ℕ)) → a / 2 ^ 11 % 2 ^ 5 < 29 → r ≡ option_map pair_of (decode_of a 0) → is_some r ≡ is_narrow a
 unfolding is_narrow
-narrow_is a top r e f = ap (λ t. ltb t 29 && is_some r) e ∙ ap (λ q. ltb (a / 2 ^ 11 % 2 ^ 5) 29 && is_some q) f ∙ at (decode_of a 0) refl
+narrow_below a r lt f = ap is_some f ∙ at (decode_of a 0) refl
   where
-    at : (x : Option Decoded) → decode_of a 0 ≡ x → (ltb (a / 2 ^ 11 % 2 ^ 5) 29 && is_some (option_map pair_of x)) ≡ is_of_two_bytes x
-    at None g = grind (arith, nat_tests)
+    at : (x : Option Decoded) → decode_of a 0 ≡ x → is_some (option_map pair_of x) ≡ is_of_two_bytes x
+    at None g = refl
+    at (Some d) g = let s = size_by_top a 0 d (omega arith) g in grind (arith, nat_tests)
+
+pub narrow_above : (a : ℕ) → 29 ≤ a / 2 ^ 11 % 2 ^ 5 → false ≡ is_narrow a
+unfolding is_narrow
+narrow_above a le = at (decode_of a 0) refl
+  where
+    at : (x : Option Decoded) → decode_of a 0 ≡ x → false ≡ is_of_two_bytes x
+    at None g = refl
     at (Some d) g = let s = size_by_top a 0 d (omega arith) g in grind (arith, nat_tests)

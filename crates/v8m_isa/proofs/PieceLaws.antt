@@ -1,10 +1,10 @@
 -- Laws of the pieces of a field: a slot is some neighbouring bits of a word.
-use Rattle.std.proofs.Common.{◌≡◌, ℕ, zero, suc, ◌+◌, ◌-◌, ◌*◌, ◌/◌, ◌%◌, ◌^◌, ◌<◌, ◌≤◌, max, Bool, true, false, ◌&&◌, ◌||◌, ◌⊎◌, List, [], ◌∷◌, refl, sym, ap, ◌∙◌, subst, ⊎_elim, inl, inr, arith, bit_or, length, drop, get_or}
-use Rattle.std.specs.Prelude.{eqb, ltb, leb}
+use Rattle.std.proofs.Common.{◌≡◌, ℕ, ◌+◌, ◌-◌, ◌*◌, ◌/◌, ◌%◌, ◌^◌, ◌<◌, ◌≤◌, max, Bool, true, false, ◌&&◌, ◌||◌, ◌⊎◌, List, [], ◌∷◌, refl, sym, ap, ◌∙◌, subst, ⊎_elim, inl, inr, arith, bit_or, length, drop, get_or}
+use Rattle.std.specs.Prelude.{eqb, leb}
 use Rattle.std.specs.Int.{bit_at}
 use Rattle.std.specs.Int.Bits.{or_zero_l, or_zero_r}
 use Rattle.std.proofs.lemmas.Bool.Decides.{nat_tests}
-use Rattle.std.proofs.lemmas.Nat.{one_shl, or_shr, or_mod, or_comm, or_shifted, or_lt, mod-pow-add, shl-shr, pow-add, shl_below, mod_below, pow_pos}
+use Rattle.std.proofs.lemmas.Nat.{one_shl, or_shr, or_mod, or_shifted, mod-pow-add, shl-shr, pow-add, shl_below, mod_below, pow_pos}
 use Rattle.std.proofs.lemmas.Nat.Bits.{bit_at_or, same_from_bits}
 use Rattle.std.proofs.lemmas.List.{drop_more, drop_all}
 use Rattle.std.proofs.Math.Nat.{mod-eq_of_lt, mul-mod_left, pow-le-pow_right, mod-one}
@@ -145,13 +145,13 @@ show-put_all [] x y h z = tt
 show-put_all (p ∷ ps) x y h z =
     let parts = and_parts (is_clear p.at p.wide ps) (are_apart ps) h in
     let here : slot p.at p.wide (bit_or y (bit_or (put p x) (put_all ps x))) ≡ x / 2 ^ p.from % 2 ^ p.wide =
-        slot_or p.at p.wide y (bit_or (put p x) (put_all ps x))
-        ∙ ap (λ s. bit_or s (slot p.at p.wide (bit_or (put p x) (put_all ps x)))) z.0
-        ∙ or_zero_l (slot p.at p.wide (bit_or (put p x) (put_all ps x)))
-        ∙ slot_or p.at p.wide (put p x) (put_all ps x)
-        ∙ ap (bit_or (slot p.at p.wide (put p x))) (slot-put_all p.at p.wide ps x parts.0)
-        ∙ or_zero_r (slot p.at p.wide (put p x))
-        ∙ slot-put p x
+    slot_or p.at p.wide y (bit_or (put p x) (put_all ps x))
+    ∙ ap (λ s. bit_or s (slot p.at p.wide (bit_or (put p x) (put_all ps x)))) z.0
+    ∙ or_zero_l (slot p.at p.wide (bit_or (put p x) (put_all ps x)))
+    ∙ slot_or p.at p.wide (put p x) (put_all ps x)
+    ∙ ap (bit_or (slot p.at p.wide (put p x))) (slot-put_all p.at p.wide ps x parts.0)
+    ∙ or_zero_r (slot p.at p.wide (put p x))
+    ∙ slot-put p x
     in
     (here, subst (λ w. Show ps w x) (or_assoc y (put p x) (put_all ps x)) (show-put_all ps x (bit_or y (put p x)) parts.1 (AreZero-or ps y (put p x) z.1 (AreZero-put p ps x parts.0))))
 

@@ -1,8 +1,8 @@
 -- Laws of rows: a word of some numbers has those numbers, and its fixed bits.
-use Rattle.std.proofs.Common.{◌≡◌, ℕ, zero, suc, ◌+◌, ◌-◌, ◌*◌, ◌/◌, ◌%◌, ◌^◌, ◌<◌, ◌≤◌, Bool, true, false, cond, ◌&&◌, ◌||◌, List, [], ◌∷◌, ◌++◌, refl, sym, ap, ◌∙◌, subst, ⊎_elim, arith, bit_or, length, drop, take, get_or, map, slice_set}
-use Rattle.std.specs.Prelude.{eqb, ltb, leb}
+use Rattle.std.proofs.Common.{◌≡◌, ℕ, ◌+◌, ◌/◌, ◌%◌, ◌^◌, ◌<◌, ◌≤◌, Bool, true, ◌&&◌, List, [], ◌∷◌, ◌++◌, refl, sym, ap, ◌∙◌, subst, arith, bit_or, length, drop, take, get_or, slice_set}
+use Rattle.std.specs.Prelude.{eqb, ltb}
 use Rattle.std.specs.List.{list_all}
-use Rattle.std.specs.Int.Bits.{or_zero_l, or_zero_r}
+use Rattle.std.specs.Int.Bits.{or_zero_r}
 use Rattle.std.proofs.lemmas.Bool.Decides.{nat_tests}
 use Rattle.std.proofs.lemmas.List.{drop_more, drop_all, take_more_set, take_more, get_or-map, length-map}
 use Rattle.std.proofs.lemmas.Nat.{or_comm, or_lt, shl_below, mod_below, pow_pos}
@@ -10,9 +10,9 @@ use Rattle.std.proofs.Math.Nat.{mod-eq_of_lt, pow-le-pow_right}
 use Rattle.v8m_isa.specs.declared.form.Piece.{Piece}
 use Rattle.v8m_isa.specs.declared.form.Field.{Field}
 use Rattle.v8m_isa.specs.declared.form.Kind.{Kind}
-use Rattle.v8m_isa.specs.Form.{put, put_all, got_all, is_in_word, are_in_word, all_in_word, bits_of, number_of, field_put, field_got, field_takes, fields_put, fields_got, all_taken, word_of, Row}
+use Rattle.v8m_isa.specs.Form.{put, put_all, is_in_word, are_in_word, all_in_word, bits_of, number_of, field_put, field_got, field_takes, fields_put, fields_got, all_taken, word_of, Row}
 use Rattle.v8m_isa.proofs.PieceLaws.{or_assoc, and_parts, slot, slot_or, slot_zero, slot_or_zero, slot-put_all, is_clear, AreZero, AreZero-zero, AreZero-or, AreZero-put, Show, width, is_whole, are_apart, got_all-show, show-put_all}
-use Rattle.v8m_isa.proofs.KindLaws.{has_width, Shown, shown}
+use Rattle.v8m_isa.proofs.KindLaws.{has_width, shown}
 
 -- the loops over the fields
 pub fields_put_more : (fs : List Field) (vs : List ℕ) (k w y : ℕ) (d : Field) (e : ℕ) → k < length fs → k < length vs → y ≡ field_put (get_or fs k d) (get_or vs k e) → bit_or (bit_or w y) (fields_put (drop (k + 1) fs) (drop (k + 1) vs)) ≡ bit_or w (fields_put (drop k fs) (drop k vs))
@@ -142,7 +142,7 @@ show-fields_put base (f ∷ fs) [] y h z = tt
 show-fields_put base (f ∷ fs) (v ∷ vs) y h z =
     let s = sound_parts base f fs h in
     let turned : bit_or (bit_or y (fields_put fs vs)) (field_put f v) ≡ bit_or y (bit_or (field_put f v) (fields_put fs vs)) =
-        or_assoc y (fields_put fs vs) (field_put f v) ∙ ap (bit_or y) (or_comm (fields_put fs vs) (field_put f v))
+    or_assoc y (fields_put fs vs) (field_put f v) ∙ ap (bit_or y) (or_comm (fields_put fs vs) (field_put f v))
     in
     let here = show-put_all f.pieces (bits_of f.kind v) (bit_or y (fields_put fs vs)) s.apart (AreZero-or f.pieces y (fields_put fs vs) z.0 (AreZero-fields_put f.pieces fs vs s.clear)) in
     let there = show-fields_put base fs vs (bit_or y (field_put f v)) s.rest (AreAllZero-or fs y (field_put f v) z.1 (AreAllZero-put_all f.pieces fs (bits_of f.kind v) s.clear)) in

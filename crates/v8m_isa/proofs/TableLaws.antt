@@ -1,9 +1,9 @@
 -- The tests of the table, and the two ways between instructions and halfwords.
-use Rattle.std.proofs.Common.{◌≡◌, ℕ, zero, suc, ◌+◌, ◌-◌, ◌*◌, ◌/◌, ◌%◌, ◌^◌, ◌<◌, ◌≤◌, Bool, true, false, cond, ◌&&◌, ◌||◌, ◌⊎◌, List, [], ◌∷◌, refl, sym, ap, ◌∙◌, subst, ⊎_elim, inl, inr, arith, bit_or, Option, Some, None, eq-eqb}
+use Rattle.std.proofs.Common.{◌≡◌, ℕ, ◌+◌, ◌-◌, ◌*◌, ◌/◌, ◌%◌, ◌^◌, ◌<◌, ◌≤◌, Bool, true, false, cond, ◌&&◌, ◌||◌, ◌⊎◌, List, [], ◌∷◌, refl, sym, ap, ◌∙◌, subst, ⊎_elim, inl, inr, arith, bit_or, Option, Some, None, eq-eqb}
 use Rattle.std.specs.Prelude.{eqb, ltb, leb, slice_index, slice_index_or, option_map}
 use Rattle.std.specs.Int.Bits.{or_zero_l}
 use Rattle.std.proofs.lemmas.Bool.Decides.{nat_tests}
-use Rattle.std.proofs.lemmas.Nat.{shr-shr, or_shifted, pow-add, div-mul-add, mod-mul-add}
+use Rattle.std.proofs.lemmas.Nat.{shr-shr, or_shifted, div-mul-add, mod-mul-add}
 use Rattle.v8m_isa.specs.declared.instr.Instr.{Instr}
 use Rattle.v8m_isa.specs.declared.instr.Instr.TheVariants.{Mov, Bxns, Udf, Sg, Movw, Movt, Bic, Ldr, Str, B, Msr}
 use Rattle.v8m_isa.specs.declared.instr.Code.{Code}
@@ -11,8 +11,8 @@ use Rattle.v8m_isa.specs.declared.form.Field.{Field}
 use Rattle.v8m_isa.specs.declared.table.Opcode.{Opcode}
 use Rattle.v8m_isa.specs.declared.table.Opcode.TheVariants as op
 use Rattle.v8m_isa.specs.declared.table.TheConstants.{BLANK}
-use Rattle.v8m_isa.specs.Form.{Row, takes, field_takes, fields_got, all_taken, all_in_word, word_of, row_size, row_code, word_in, fits, numbers_in}
-use Rattle.v8m_isa.specs.Table.{opcodes, row_of, opcode_of, numbers_of, instr_of, in_range_of, size_of, code_of, Decoded, read_by, or_else, first_of, decode_of, IsReadAs, IsNoInstr}
+use Rattle.v8m_isa.specs.Form.{Row, takes, field_takes, fields_got, all_taken, all_in_word, word_of, row_size, row_code, word_in, fits}
+use Rattle.v8m_isa.specs.Table.{opcodes, row_of, opcode_of, numbers_of, instr_of, in_range_of, size_of, code_of, Decoded, read_by, or_else, first_of, decode_of, IsReadAs}
 use Rattle.v8m_isa.specs.Choice.{Choice, none, only, first_is, second_is, chosen, choices}
 use Rattle.v8m_isa.proofs.PieceLaws.{and_parts, or_parts, slot, slot_or, above}
 use Rattle.v8m_isa.proofs.RowLaws.{is_clear_of, are_sound, slot-word_of, fields_got-word_of, word_of_lt}
@@ -65,7 +65,7 @@ is_good r n = are_sound r.base r.fields && (ltb r.base 4294967296 && (all_in_wor
 
 -- the test of the whole table
 table_is_good : (o : Opcode) → is_good (row_of o) (number o) ≡ true
-unfolding row_of
+unfolding row_of choices
 table_is_good op.Mov = refl
 table_is_good _ = refl
 
@@ -392,7 +392,7 @@ made_back o a b lb f =
     let i = instr_of o (numbers_by o a b) in
     let numbers = numbers_back o (numbers_by o a b) f.taken in
     let code : row_code (row_of (opcode_of (instr_of o (numbers_by o a b)))) (numbers_of (instr_of o (numbers_by o a b))) ≡ row_code (row_of o) (numbers_by o a b) =
-        ap (λ q. row_code (row_of q) (numbers_of i)) (opcode_back o (numbers_by o a b)) ∙ ap (row_code r) numbers
+    ap (λ q. row_code (row_of q) (numbers_of i)) (opcode_back o (numbers_by o a b)) ∙ ap (row_code r) numbers
     in
     let low = low_lt r.wide b lb in
     let high : word_by o a b / 2 ^ 16 ≡ a = div-mul-add a (2 ^ 16) (cond (row_of o).wide b 0) low in

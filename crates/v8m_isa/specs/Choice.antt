@@ -1,5 +1,5 @@
 -- Which row is tried, by a few bits of the halfwords.
-use Rattle.std.specs.Prelude.{ℕ, ◌/◌, ◌%◌, ◌^◌, Bool, cond, eqb, Option, Some, None}
+use Rattle.std.specs.Prelude.{ℕ, ◌/◌, ◌%◌, ◌^◌, cond, eqb, Option, Some, None}
 use Rattle.v8m_isa.specs.declared.table.Opcode.{Opcode}
 use Rattle.v8m_isa.specs.declared.table.Opcode.TheVariants as op
 
@@ -32,5 +32,5 @@ plain_choices =
 abbrev pub memory_choices : Choice
 memory_choices = first_is 4 7 12 (only op.Str) (first_is 4 7 13 (only op.Ldr) none)
 
-abbrev pub choices : Choice
+unfoldable pub choices : Choice
 choices = first_is 11 5 29 register_choices (first_is 11 5 30 plain_choices (first_is 11 5 31 memory_choices narrow_choices))

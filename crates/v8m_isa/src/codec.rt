@@ -42,8 +42,7 @@ pub fn decode(first: u16, second: u16) -> Option<(Instr, u8)>
     ensures back { IfSome result (λ p. IsReadAs first second p.0 p.1) }
     ensures none { IfNone result (IsNoInstr first second) }
 {
-    let opcode = opcode_for(first, second)?;
-    read(opcode, first, second)
+    found(first, second)
 }
 
 /// Whether a halfword is an instruction by itself.
@@ -53,7 +52,16 @@ pub fn is_narrow(first: u16) -> bool
     bits(first, 11, 5) < 0b11101 && decode(first, 0).is_some()
 }
 
+// The instruction that begins with these halfwords.
+fn found(first: u16, second: u16) -> Option<(Instr, u8)>
+    ensures { result ≡ option_map pair_of (decode_of first second) }
+{
+    let opcode = opcode_for(first, second)?;
+    read(opcode, first, second)
+}
+
 // The only row that these halfwords can be of, by a few of their bits.
+#[tactic(auto, unfolding(crate::specs::Choice::choices))]
 fn opcode_for(first: u16, second: u16) -> Option<Opcode>
     ensures { result ≡ chosen choices first second }
 {

@@ -79,7 +79,11 @@ fn extended(bits: u32) -> u32
     requires { bits < 2 ^ 25 }
     ensures { result ≡ sign_extend 25 bits }
 {
-    if bits < 0x100_0000 { bits } else { bits + 0xFE00_0000 }
+    if bits < 0x100_0000 {
+        bits
+    } else {
+        bits + 0xFE00_0000
+    }
 }
 
 /// Some neighbouring bits of a field: `wide` of them, from bit `at` of the word first:second, are the field's bits

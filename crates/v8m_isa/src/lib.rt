@@ -6,6 +6,8 @@ mod codec;
 mod form;
 mod instr;
 mod table;
+#[cfg(test)]
+mod tests;
 
 pub use codec::{decode, encode, in_range, is_narrow};
 pub use instr::{Code, Instr};

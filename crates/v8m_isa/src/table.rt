@@ -58,15 +58,25 @@ const BLANK: Field = Field {
 };
 
 pub const MOV: Form<4> = form!(0x4600 [Register 7:7 2:0] [Base 6:3]);
+
 pub const BXNS: Form<4> = form!(0x4704 [Register 6:3]);
+
 pub const UDF: Form<4> = form!(0xDE00 [Number 7:0]);
+
 pub const SG: Form<4> = form!(0xE97F 0xE97F);
+
 pub const MOVW: Form<4> = form!(0xF240 0x0000 [Register 11:8] [Number 19:16 26:26 14:12 7:0]);
+
 pub const MOVT: Form<4> = form!(0xF2C0 0x0000 [Register 11:8] [Number 19:16 26:26 14:12 7:0]);
+
 pub const BIC: Form<4> = form!(0xEA20 0x0000 [Register 11:8] [Register 19:16] [Register 3:0]);
+
 pub const LDR: Form<4> = form!(0xF8D0 0x0000 [Register 15:12] [Base 19:16] [Number 11:0]);
+
 pub const STR: Form<4> = form!(0xF8C0 0x0000 [Register 15:12] [Base 19:16] [Number 11:0]);
+
 pub const B: Form<4> = form!(0xF000 0x9000 [Far 26:26 13:13 11:11 25:16 10:0]);
+
 pub const MSR: Form<4> = form!(0xF380 0x8800 [Special 7:0] [Register 19:16]);
 
 /// The rows' names.

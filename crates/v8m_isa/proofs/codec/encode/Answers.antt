@@ -1,6 +1,6 @@
 use Rattle.std.proofs.Common.{◌≡◌, sym, ap, ◌∙◌, subst, Some}
 use Rattle.v8m_isa.specs.declared.instr.Code.{Code}
-use Rattle.v8m_isa.specs.Table.{decode_of, code_of}
+use Rattle.v8m_isa.specs.Table.{decode_of}
 use Rattle.v8m_isa.proofs.Laws.{decode_of-code_of, size-code_of, second-code_of_narrow}
 use Rattle.v8m_isa.proofs.codec.encode.Goals as goal
 

@@ -1,4 +1,4 @@
-use Rattle.std.proofs.Common.{◌≡◌, sym, ap, ◌∙◌, arith}
+use Rattle.std.proofs.Common.{sym, ap, ◌∙◌, arith}
 use Rattle.v8m_isa.specs.Form.{number_of}
 use Rattle.v8m_isa.proofs.PieceLaws.{got_all_more, got_all_end}
 use Rattle.v8m_isa.proofs.form.Field.got.Goals as goal

@@ -1,4 +1,4 @@
-use Rattle.std.proofs.Common.{◌≡◌, sym, ap, ◌∙◌, arith}
+use Rattle.std.proofs.Common.{sym, ap, ◌∙◌, arith}
 use Rattle.v8m_isa.specs.Form.{put_all}
 use Rattle.v8m_isa.proofs.PieceLaws.{put_all_more, put_all_end}
 use Rattle.v8m_isa.proofs.form.Field.put.Goals as goal

@@ -1,4 +1,4 @@
-use Rattle.std.proofs.Common.{◌≡◌, sym, ◌∙◌, arith}
+use Rattle.std.proofs.Common.{◌∙◌, arith}
 use Rattle.std.proofs.lemmas.List.{length-set}
 use Rattle.v8m_isa.proofs.RowLaws.{fields_got_more}
 use Rattle.v8m_isa.proofs.form.Form.numbers.Goals as goal

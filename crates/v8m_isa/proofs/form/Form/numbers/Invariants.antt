@@ -1,4 +1,4 @@
-use Rattle.std.proofs.Common.{◌≡◌, take, drop, length}
+use Rattle.std.proofs.Common.{◌≡◌, take, length}
 use Rattle.v8m_isa.specs.Form.{fields_got}
 use Rattle.v8m_isa.proofs.form.Form.numbers.Given as goal
 

@@ -1,5 +1,5 @@
-use Rattle.std.proofs.Common.{◌≡◌, ◌+◌, ◌&&◌, Bool, true, false, sym, ap, ◌∙◌, arith, drop}
-use Rattle.v8m_isa.specs.Form.{all_taken, field_takes}
+use Rattle.std.proofs.Common.{◌≡◌, ◌+◌, ◌&&◌, true, false, sym, ap, ◌∙◌, arith, drop}
+use Rattle.v8m_isa.specs.Form.{all_taken}
 use Rattle.v8m_isa.proofs.RowLaws.{all_taken_more, all_taken_end}
 use Rattle.v8m_isa.proofs.form.Form.takes.Goals as goal
 

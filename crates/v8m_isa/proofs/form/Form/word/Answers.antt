@@ -1,4 +1,4 @@
-use Rattle.std.proofs.Common.{◌≡◌, refl, sym, ◌∙◌, arith}
+use Rattle.std.proofs.Common.{refl, sym, ◌∙◌, arith}
 use Rattle.v8m_isa.specs.Form.{word_of}
 use Rattle.v8m_isa.proofs.RowLaws.{fields_put_more, fields_put_end}
 use Rattle.v8m_isa.proofs.form.Form.word.Goals as goal

@@ -1,0 +1,92 @@
+-- What a list of words asks for.
+use Rattle.std.specs.Prelude.{◌≡◌, ◌≢◌, ℕ, ◌+◌, ◌-◌, ◌==◌, Bool, true, false, not, List, [], ◌∷◌, map, codes, slice_get, String, Option, Some, None, Result, Ok, Err, if◌then◌else◌}
+use Rattle.std.specs.String.{string_bytes}
+use Rattle.std.specs.declared.alloc.Global.{Global}
+use Rattle.std.specs.Str.{bytes_eq}
+use Rattle.cmse.specs.declared.words.Command.{Command}
+use Rattle.cmse.specs.declared.words.Command.TheVariants.{Build}
+
+abbrev pub Words : Type 0
+Words = List (List ℕ)
+
+-- a command and the names of its files
+pub data Asked : Type 0 where
+  build : List ℕ → List ℕ → List ℕ → Asked
+
+-- what a function found, seen by view, is this answer
+abbrev pub Gives : {X Y : Type 0} → (X → Y) → Result X ℕ → Result Y ℕ → Type 0
+Gives view (Ok x) answer = answer ≡ Ok (view x)
+Gives view (Err k) answer = answer ≡ Err k
+
+infixl 10 ◌>>=◌
+abbrev pub ◌>>=◌ : {A B : Type 0} → Result A ℕ → (A → Result B ℕ) → Result B ℕ
+(Ok x) >>= f = f x
+(Err k) >>= f = Err k
+
+-- word number k, counted from 1
+abbrev pub word : Words → ℕ → Option (List ℕ)
+word words k = slice_get words (k - 1)
+
+-- a word that isn't empty and doesn't begin with `-`
+abbrev pub is_name : List ℕ → Bool
+is_name [] = false
+is_name (b ∷ bs) = not (b == 45)
+
+abbrev pub is_text : Option (List ℕ) → List ℕ → Bool
+is_text None text = false
+is_text (Some w) text = bytes_eq w text
+
+-- whether word number k is this text
+abbrev pub is_word : Words → ℕ → List ℕ → Bool
+is_word words k text = is_text (word words k) text
+
+abbrev pub name_of : Option (List ℕ) → ℕ → Result (List ℕ) ℕ
+name_of None k = Err k
+name_of (Some w) k = if is_name w then Ok w else Err k
+
+-- the name at place k, or k where no name is there
+abbrev pub name_at : Words → ℕ → Result (List ℕ) ℕ
+name_at words k = name_of (word words k) k
+
+-- the name behind the option at place k
+abbrev pub value_at : Words → ℕ → List ℕ → Result (List ℕ) ℕ
+value_at words k option = if is_word words k option then name_at words (k + 1) else Err k
+
+-- the same, where it isn't `other`
+abbrev pub differing_at : Words → ℕ → List ℕ → List ℕ → Result (List ℕ) ℕ
+differing_at words k option other =
+    value_at words k option >>= λ value. if bytes_eq value other then Err (k + 1) else Ok value
+
+abbrev pub end_of : Option (List ℕ) → ℕ → Result (Unit {0}) ℕ
+end_of None k = Ok tt
+end_of (Some w) k = Err k
+
+-- that the words end before place k
+abbrev pub end_at : Words → ℕ → Result (Unit {0}) ℕ
+end_at words k = end_of (word words k) k
+
+-- the image and the library of `build`, whose options come in either order
+unfoldable pub options_of : Words → Result (List ℕ × List ℕ) ℕ
+options_of words =
+    if is_word words 2 (codes "-l")
+    then (value_at words 2 (codes "-l") >>= λ library. differing_at words 4 (codes "-o") library >>= λ image. Ok (image, library))
+    else (value_at words 2 (codes "-o") >>= λ image. differing_at words 4 (codes "-l") image >>= λ library. Ok (image, library))
+
+-- What the words ask for, or the number of the first word that no command allows there.
+unfoldable pub asked_of : Words → Result Asked ℕ
+asked_of words =
+    if is_word words 1 (codes "build")
+    then (options_of words >>= λ names. name_at words 6 >>= λ source. end_at words 7 >>= λ _. Ok (build names.0 names.1 source))
+    else Err 1
+
+-- words of the program as their bytes
+abbrev pub texts : List (String Global) → Words
+texts words = map string_bytes words
+
+-- a command of the program as what it asks for
+abbrev pub seen : Command → Asked
+seen (Build image library source) = build image.now library.now source.now
+
+-- the files that a command writes differ
+abbrev pub FilesDiffer : Command → Type 0
+FilesDiffer (Build image library source) = image.now ≢ library.now

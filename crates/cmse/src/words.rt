@@ -1,0 +1,130 @@
+//! The command line.
+ghost use Rattle.std.specs.Prelude.{◌≡◌, ◌≢◌, ◌<◌, IfOk};
+ghost use Rattle.std.specs.Option.{option_copied};
+ghost use Rattle.cmse.specs.Words.{texts, word, is_name, is_word, name_at, value_at, differing_at, end_at, options_of, asked_of, FilesDiffer, seen, Gives};
+
+/// What a command line asks for, with the names of its files.
+#[derive(Clone, Copy, Debug)]
+pub enum Command<'a> {
+    /// Turn a source into an image and an import library.
+    Build {
+        image: &'a str,
+        library: &'a str,
+        source: &'a str,
+    },
+}
+
+/// Word number k, counted from 1.
+fn word(words: &[String], k: u32) -> Option<&str>
+    requires { 0 < k }
+    ensures { option_copied result ≡ word (texts words.now) k }
+{
+    let word = words.get(k as usize - 1)?;
+    Some(word.as_str())
+}
+
+/// Whether a word names a file: it isn't empty and doesn't begin with `-`.
+fn is_name(word: &str) -> bool
+    ensures { result ≡ is_name word.now }
+{
+    match word.as_bytes() {
+        [] => false,
+        [first, ..] => *first != b'-',
+    }
+}
+
+/// Whether word number k is this text.
+fn is_word(words: &[String], k: u32, text: &str) -> bool
+    requires { 0 < k }
+    ensures { result ≡ is_word (texts words.now) k text.now }
+{
+    match word(words, k) {
+        None => false,
+        Some(word) => word == text,
+    }
+}
+
+/// The name at place k, or k where no name is there.
+fn name_at(words: &[String], k: u32) -> Result<&str, u32>
+    requires { 0 < k }
+    ensures { Gives (λ x. x.now) result (name_at (texts words.now) k) }
+{
+    match word(words, k) {
+        Some(word) if is_name(word) => Ok(word),
+        _ => Err(k),
+    }
+}
+
+/// The value of an option that stands at place k.
+fn value_at<'a>(words: &'a [String], k: u32, option: &str) -> Result<&'a str, u32>
+    requires low { 0 < k }
+    requires high { k < 100 }
+    ensures { Gives (λ x. x.now) result (value_at (texts words.now) k option.now) }
+{
+    if !is_word(words, k, option) {
+        return Err(k);
+    }
+    name_at(words, k + 1)
+}
+
+/// The same, where the value isn't `other`.
+fn differing_at<'a>(words: &'a [String], k: u32, option: &str, other: &str) -> Result<&'a str, u32>
+    requires low { 0 < k }
+    requires high { k < 100 }
+    ensures value { Gives (λ x. x.now) result (differing_at (texts words.now) k option.now other.now) }
+    ensures differs { IfOk result (λ x. x.now ≢ other.now) }
+{
+    let value = value_at(words, k, option)?;
+    if value == other {
+        return Err(k + 1);
+    }
+    Ok(value)
+}
+
+/// That the words end before place k.
+fn end_at(words: &[String], k: u32) -> Result<(), u32>
+    requires { 0 < k }
+    ensures { Gives (λ _. tt) result (end_at (texts words.now) k) }
+{
+    match word(words, k) {
+        None => Ok(()),
+        Some(_) => Err(k),
+    }
+}
+
+/// The values of the options `-o` and `-l` of `build`, in either order.
+#[tactic(auto, unfolding(crate::specs::Words::options_of))]
+fn options_of(words: &[String]) -> Result<(&str, &str), u32>
+    ensures value { Gives (λ x. (x.0.now, x.1.now)) result (options_of (texts words.now)) }
+    ensures differ { IfOk result (λ x. x.0.now ≢ x.1.now) }
+{
+    if is_word(words, 2, "-l") {
+        let library = value_at(words, 2, "-l")?;
+        let image = differing_at(words, 4, "-o", library)?;
+        Ok((image, library))
+    } else {
+        let image = value_at(words, 2, "-o")?;
+        let library = differing_at(words, 4, "-l", image)?;
+        Ok((image, library))
+    }
+}
+
+/// What the words after the program's name ask for, or the number of the first bad one, counted from 1: the first
+/// word that no command allows there, or the number after the last word where words are missing.
+#[tactic(auto, unfolding(crate::specs::Words::asked_of))]
+pub fn read_words(words: &[String]) -> Result<Command<'_>, u32>
+    ensures value { Gives seen result (asked_of (texts words.now)) }
+    ensures differ { IfOk result FilesDiffer }
+{
+    if !is_word(words, 1, "build") {
+        return Err(1);
+    }
+    let (image, library) = options_of(words)?;
+    let source = name_at(words, 6)?;
+    end_at(words, 7)?;
+    Ok(Command::Build {
+        image,
+        library,
+        source,
+    })
+}

@@ -1,0 +1,4 @@
+pub mod Texts
+pub mod FileParts
+pub mod Ready
+pub mod ReadBack

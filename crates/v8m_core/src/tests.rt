@@ -1,0 +1,211 @@
+//! Expected values from the instruction manual and the table of regions; the halfwords are an assembler's.
+
+ghost use Rattle.std.specs.Prelude.{◌≡◌, IfOk, vec_len};
+
+use crate::{Image, Machine, Stepped};
+use cm_base::{Bytes, List, NoMemory, Stop};
+use ns_types::{Item, Side, Start, Turn, View};
+use std::alloc::Global;
+use std::test::Fail;
+
+fn filled(alloc: Global, n: usize, byte: u8) -> Result<Vec<u8>, NoMemory>
+    ensures { IfOk result (λ b. vec_len b ≡ n) }
+{
+    Ok(vec![in alloc; byte; n]?)
+}
+
+/// Puts halfwords into bytes.
+fn put(bytes: &mut [u8], at: usize, halfwords: &[u16]) {
+    let mut o = at;
+    for h in halfwords {
+        if o < bytes.len() {
+            bytes[o] = (*h % 256) as u8;
+            if o + 1 < bytes.len() {
+                bytes[o + 1] = (*h / 256) as u8;
+            }
+        }
+        o = o.wrapping_add(2);
+    }
+}
+
+/// A machine with code at 10000100, a gateway with `bxns lr` behind it at 103FF000, `udf #2` at 10000200, and two
+/// words at the stack pointer.
+fn machine(alloc: Global, code: &[u16], words: &[u16]) -> Result<Machine, NoMemory> {
+    let mut rom = filled(alloc, 0x40_0000, 0)?;
+    put(&mut rom, 0, &[0x7FFB, 0x3001, 0x0101, 0x1000]);
+    put(&mut rom, 0x100, code);
+    put(&mut rom, 0x200, &[0xDE02]);
+    put(&mut rom, 0x3F_F000, &[0xE97F, 0xE97F, 0x4774]);
+    let mut secure_ram = filled(alloc, 0x1_A000, 0)?;
+    put(&mut secure_ram, 0x1_7FF8, words);
+    let start = Start {
+        secure_ram: Bytes::from_vec(secure_ram),
+        ns_ram: Bytes::from_vec(filled(alloc, 0x2_0000, 0)?),
+        ns_rom: Bytes::from_vec(filled(alloc, 0x4_0000, 0)?),
+    };
+    let image = Image {
+        rom: Bytes::from_vec(rom),
+    };
+    Machine::new(alloc, &image, &start)
+}
+
+/// A step, or a turn where Non-secure code runs.
+fn go(machine: &mut Machine, turn: &Turn) -> Option<Stepped> {
+    match machine.side() {
+        Side::Secure => Some(machine.step()),
+        Side::NonSecure => Some(machine.turn(turn)),
+        Side::Stopped(_) => None,
+    }
+}
+
+fn turn(alloc: Global, items: &[Item], target: u32) -> Result<Turn, NoMemory> {
+    Ok(Turn {
+        r: [1, 2, 3, 4, 5, 6, 7, 8, 9, 10, 11, 12, 13],
+        lr: 0x2000_0001,
+        nzcvq: 5,
+        msp_ns: 0x2000_0403,
+        psp_ns: 0x2000_0802,
+        items: List::from_slice(alloc, items)?,
+        target,
+    })
+}
+
+/// What the next steps are, but for those that only go on.
+fn shown(
+    alloc: Global,
+    machine: &mut Machine,
+    turn: &Turn,
+    steps: u8,
+) -> Result<List<Stepped>, NoMemory> {
+    let mut list = List::new(alloc);
+    for _ in 0..steps {
+        match go(machine, turn) {
+            Some(Stepped::Went) | None => {}
+            Some(what) => list.push(what)?,
+        }
+    }
+    Ok(list)
+}
+
+#[test]
+fn instructions_and_gates(rt: HostRuntime) -> Result<(), Fail> {
+    // movw r0, #0x1234; movt r0, #0x2000; movw r1, #0xABCD; movt r1, #0x8765; str.w r1, [r0]; ldr.w r2, [r0];
+    // mov r3, r1; bic r4, r1, r0; sg; b.w over the next two halfwords; udf #1; udf #1; msr msplim, r0;
+    // msr apsr_nzcvq, r1; msr msp_ns, r1; bxns r0
+    let code = [
+        0xF241, 0x2034, 0xF2C2, 0x0000, 0xF64A, 0x31CD, 0xF2C8, 0x7165, 0xF8C0, 0x1000, 0xF8D0,
+        0x2000, 0x460B, 0xEA21, 0x0400, 0xE97F, 0xE97F, 0xF000, 0xB802, 0xDE01, 0xDE01, 0xF380,
+        0x880A, 0xF381, 0x8800, 0xF381, 0x8888, 0x4704,
+    ];
+    let mut m = machine(rt.alloc(), &code, &[])?;
+    let write = Item::Write {
+        at: 0x2000_0007,
+        byte: 0x5A,
+    };
+    let t = turn(rt.alloc(), &[Item::Read { at: 0 }, write], 0x103F_F001)?;
+    // the start code hands over; a turn enters by the gateway, whose LR loses bit 0, and `bxns lr` goes back
+    let all = [
+        Stepped::Wrote {
+            at: 0x2000_1234,
+            size: 4,
+            value: 0x8765_ABCD,
+        },
+        Stepped::Given(View {
+            r: [
+                0x2000_1234,
+                0x8765_ABCD,
+                0x8765_ABCD,
+                0x8765_ABCD,
+                0x8765_A9C9,
+                0,
+                0,
+                0,
+                0,
+                0,
+                0,
+                0,
+                0,
+            ],
+            lr: 0xFFFF_FFFF,
+            pc: 0x2000_1234,
+            nzcvq: 16,
+            msp_ns: 0x8765_ABCC,
+            psp_ns: 0,
+        }),
+        Stepped::Given(View {
+            r: t.r,
+            lr: 0x2000_0000,
+            pc: 0x2000_0000,
+            nzcvq: 5,
+            msp_ns: 0x2000_0400,
+            psp_ns: 0x2000_0800,
+        }),
+    ];
+    let list = shown(rt.alloc(), &mut m, &t, 16)?;
+    assert_eq!(rt; list.as_slice(), all.as_slice());
+    assert_eq!(rt; m.ns_ram().get(7).copied(), Some(0x5A));
+    assert_eq!(rt; m.ns_ram().get(0x1236).copied(), Some(0x65));
+    Ok(())
+}
+
+#[test]
+fn stops(rt: HostRuntime) -> Result<(), Fail> {
+    let read = Item::Read { at: 0 };
+    let write = |at: u32| Item::Write { at, byte: 1 };
+    // movw r0, #0xFFFE; movt r0, #0xFEFF; bxns r0: a function return
+    let leave = [0xF64F, 0x70FE, 0xF6CF, 0x60FF, 0x4704];
+    // bxns r0: a turn follows
+    let give = [0x4704, 0, 0, 0, 0];
+    let seal = [0xEDA5, 0xFEF5, 0xEDA5, 0xFEF5];
+    // the code, the words at SP, an item and the target of a turn, and the stop
+    let table = [
+        ([0xDE01, 0, 0, 0, 0], seal, read, 0, Stop::Divide),
+        ([0xDE05, 0, 0, 0, 0], seal, read, 0, Stop::CallTarget),
+        ([0xDE06, 0, 0, 0, 0], seal, read, 0, Stop::Undefined),
+        ([0xFFFF, 0xFFFF, 0, 0, 0], seal, read, 0, Stop::Undefined),
+        // str.w r1, [r0] at 0; ldr.w r1, [r0, #2]; bxns lr with LR FFFFFFFF
+        ([0xF8C0, 0x1000, 0, 0, 0], seal, read, 0, Stop::Unmapped),
+        ([0xF8D0, 0x1002, 0, 0, 0], seal, read, 0, Stop::Unaligned),
+        ([0x4774, 0, 0, 0, 0], seal, read, 0, Stop::BadState),
+        // a return that goes on to UDF 2, and three that don't
+        (
+            leave,
+            [0x0201, 0x1000, 0x0200, 0x0000],
+            read,
+            0,
+            Stop::Outside,
+        ),
+        (
+            leave,
+            [0x0201, 0x1000, 0x0100, 0x0000],
+            read,
+            0,
+            Stop::ReturnFault,
+        ),
+        (
+            leave,
+            [0x0201, 0x3000, 0x0000, 0x0000],
+            read,
+            0,
+            Stop::BadState,
+        ),
+        (leave, seal, read, 0, Stop::ReturnFault),
+        (give, seal, write(0x2002_0000), 0, Stop::Astray),
+        (give, seal, write(0x0000_0000), 0, Stop::Astray),
+        (give, seal, write(0x3000_0000), 0, Stop::Access),
+        (give, seal, read, 0x1000_0100, Stop::EntryPoint),
+        (give, seal, read, 0x103F_F004, Stop::EntryPoint),
+        (give, seal, read, 0x5000_0000, Stop::Astray),
+        (give, seal, read, 0xFEFF_FFFF, Stop::ReturnFault),
+    ];
+    for (code, words, item, target, stop) in table {
+        let mut m = machine(rt.alloc(), &code, &words)?;
+        let t = turn(rt.alloc(), &[item], target)?;
+        let list = shown(rt.alloc(), &mut m, &t, 4)?;
+        assert_eq!(rt;
+            list.as_slice().last().copied(),
+            Some(Stepped::Stopped(stop))
+        );
+    }
+    Ok(())
+}
