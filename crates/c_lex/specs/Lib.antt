@@ -1,0 +1,6 @@
+pub mod Classes
+pub mod Spot
+pub mod Spelling
+pub mod Tokens
+pub mod Reading
+pub mod Answer

@@ -1,5 +1,5 @@
 -- What a list of words asks for.
-use Rattle.std.specs.Prelude.{◌≡◌, ℕ, ◌+◌, ◌-◌, ◌==◌, Bool, true, false, not, List, [], ◌∷◌, map, codes, slice_get, String, Option, Some, None, Result, Ok, Err, if◌then◌else◌}
+use Rattle.std.specs.Prelude.{◌≡◌, ◌≢◌, ℕ, ◌+◌, ◌-◌, ◌==◌, Bool, true, false, not, List, [], ◌∷◌, map, codes, slice_get, String, Option, Some, None, Result, Ok, Err, if◌then◌else◌}
 use Rattle.std.specs.String.{string_bytes}
 use Rattle.std.specs.declared.alloc.Global.{Global}
 use Rattle.std.specs.Str.{bytes_eq}
@@ -86,3 +86,7 @@ texts words = map string_bytes words
 -- a command of the program as what it asks for
 abbrev pub seen : Command → Asked
 seen (Build image library source) = build image.now library.now source.now
+
+-- the files that a command writes differ
+abbrev pub FilesDiffer : Command → Type 0
+FilesDiffer (Build image library source) = image.now ≢ library.now

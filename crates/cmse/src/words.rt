@@ -1,7 +1,7 @@
 //! The command line.
-ghost use Rattle.std.specs.Prelude.{◌≡◌, ◌≤◌, ◌<◌, ◌+◌, List, ℕ, IsTrue, ◌↔◌};
+ghost use Rattle.std.specs.Prelude.{◌≡◌, ◌≢◌, ◌<◌, IfOk};
 ghost use Rattle.std.specs.Option.{option_copied};
-ghost use Rattle.cmse.specs.Words.{texts, word, is_name, is_word, name_at, value_at, differing_at, end_at, options_of, asked_of, Asked, seen, Gives};
+ghost use Rattle.cmse.specs.Words.{texts, word, is_name, is_word, name_at, value_at, differing_at, end_at, options_of, asked_of, FilesDiffer, seen, Gives};
 
 /// What a command line asks for, with the names of its files.
 #[derive(Clone, Copy, Debug)]
@@ -71,7 +71,8 @@ fn value_at<'a>(words: &'a [String], k: u32, option: &str) -> Result<&'a str, u3
 fn differing_at<'a>(words: &'a [String], k: u32, option: &str, other: &str) -> Result<&'a str, u32>
     requires low { 0 < k }
     requires high { k < 100 }
-    ensures { Gives (λ x. x.now) result (differing_at (texts words.now) k option.now other.now) }
+    ensures value { Gives (λ x. x.now) result (differing_at (texts words.now) k option.now other.now) }
+    ensures differs { IfOk result (λ x. x.now ≢ other.now) }
 {
     let value = value_at(words, k, option)?;
     if value == other {
@@ -94,7 +95,8 @@ fn end_at(words: &[String], k: u32) -> Result<(), u32>
 /// The values of the options `-o` and `-l` of `build`, in either order.
 #[tactic(auto, unfolding(crate::specs::Words::options_of))]
 fn options_of(words: &[String]) -> Result<(&str, &str), u32>
-    ensures { Gives (λ x. (x.0.now, x.1.now)) result (options_of (texts words.now)) }
+    ensures value { Gives (λ x. (x.0.now, x.1.now)) result (options_of (texts words.now)) }
+    ensures differ { IfOk result (λ x. x.0.now ≢ x.1.now) }
 {
     if is_word(words, 2, "-l") {
         let library = value_at(words, 2, "-l")?;
@@ -111,7 +113,8 @@ fn options_of(words: &[String]) -> Result<(&str, &str), u32>
 /// word that no command allows there, or the number after the last word where words are missing.
 #[tactic(auto, unfolding(crate::specs::Words::asked_of))]
 pub fn read_words(words: &[String]) -> Result<Command<'_>, u32>
-    ensures { Gives seen result (asked_of (texts words.now)) }
+    ensures value { Gives seen result (asked_of (texts words.now)) }
+    ensures differ { IfOk result FilesDiffer }
 {
     if !is_word(words, 1, "build") {
         return Err(1);

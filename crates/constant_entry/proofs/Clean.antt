@@ -1,12 +1,11 @@
 -- The program never stops as only a machine does.
-use Rattle.std.proofs.Common.{◌≡◌, ◌≢◌, ℕ, zero, suc, ◌+◌, Bool, true, false, cond, List, [], ◌∷◌, ◌++◌, length, refl, sym, ap, ◌∙◌, subst, arith, Option, Some, None}
-use Rattle.std.specs.Prelude.{not, ◌&&◌, take, eqb}
+use Rattle.std.proofs.Common.{◌≡◌, ℕ, zero, suc, Bool, true, false, cond, List, [], ◌∷◌, ◌++◌, length, refl, sym, ap, ◌∙◌, Option, Some, None}
+use Rattle.std.specs.Prelude.{not, ◌&&◌, take}
 use Rattle.cm_base.specs.declared.stop.Stop.{Stop}
 use Rattle.cm_base.specs.declared.stop.Stop.TheVariants as stop
 use Rattle.ns_types.specs.declared.goes.Goes.{Goes}
 use Rattle.ns_types.specs.declared.goes.Goes.TheVariants as goes
 use Rattle.ns_types.specs.declared.event.Event.{Event}
-use Rattle.ns_types.specs.declared.event.Event.TheVariants as event
 use Rattle.ns_types.specs.declared.event.CEvent.{CEvent}
 use Rattle.ns_types.specs.declared.event.CEvent.TheVariants as c
 use Rattle.ns_types.specs.declared.event.Bound.{Bound}
@@ -19,7 +18,7 @@ use Rattle.ns_types.specs.declared.turn.View.{View}
 use Rattle.ns_types.specs.State.{Memory}
 use Rattle.ns_types.specs.Platform.{in_row, is_secure, is_nonsecure, aligned}
 use Rattle.ns_types.specs.Boundary.{Mark, Acted, acted, acted_or, item_stop, with_item, in_four, eight_zeros, kept_of, goes_of, view_of, reset_address, start_mark}
-use Rattle.ns_types.specs.CRun.{Marked, World, Outcome, Gave, Over, emit, mark_at, reach, chain, phase, at_top, run_of, fresh, stop_or, then_go, stopped, turned}
+use Rattle.ns_types.specs.CRun.{Marked, World, Outcome, Gave, Over, emit, mark_at, reach, chain, phase, at_top, run_of, fresh, stop_or, stopped, turned}
 use Rattle.ns_types.specs.Show.{Shown, show, shown_of, given_if, events_shown}
 use Rattle.v8m_mem.specs.Rows.{memory_of}
 use Rattle.ns_turns.specs.Refines.{is_clean, is_clean_event, is_machine_stop, seen_of}

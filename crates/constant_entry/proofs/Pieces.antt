@@ -1,12 +1,11 @@
 -- The runs of the start code and of an entry that gives a constant.
-use Rattle.std.proofs.Common.{◌≡◌, ℕ, zero, suc, ◌+◌, ◌-◌, ◌*◌, ◌/◌, ◌%◌, ◌<◌, ◌≤◌, Bool, true, false, cond, List, [], ◌∷◌, ◌++◌, length, refl, sym, ap, ◌∙◌, subst, arith, Option, Some, None}
-use Rattle.std.specs.Prelude.{bit_and}
+use Rattle.std.proofs.Common.{◌≡◌, ℕ, ◌+◌, ◌*◌, ◌/◌, ◌%◌, List, refl, ap, arith}
 use Rattle.v8m_isa.specs.Table.{size_of, opcode_of, row_of}
 use Rattle.ns_types.specs.State.{State}
 use Rattle.ns_types.specs.Platform.{is_readable, is_writable}
-use Rattle.ns_types.specs.Memory.{load, store, word_at}
+use Rattle.ns_types.specs.Memory.{load}
 use Rattle.v8m_core.specs.Step.{effect_of, apply, write_register, load_stop, store_stop, went, put}
-use Rattle.v8m_core.specs.Code.{HasCode, Comes, Does}
+use Rattle.v8m_core.specs.Code.{HasCode, Comes}
 use Rattle.constant_entry.specs.Code.{stacks_code, hand_code, entry_front}
 use Rattle.constant_entry.proofs.States.{sealed, handing, answering}
 use Rattle.v8m_core.proofs.Runs.{straight}

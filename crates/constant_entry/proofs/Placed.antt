@@ -1,13 +1,13 @@
 -- The bytes of Secure ROM hold the program.
-use Rattle.std.proofs.Common.{◌≡◌, ◌≢◌, ℕ, zero, suc, ◌+◌, ◌-◌, ◌*◌, ◌/◌, ◌%◌, ◌<◌, ◌≤◌, ◌⊎◌, Bool, true, false, cond, List, [], ◌∷◌, ◌++◌, length, refl, sym, ap, ◌∙◌, subst, ⊎_elim, inl, inr, arith, append_assoc, length-append, All, flat_map, IsTrue}
-use Rattle.std.specs.Prelude.{eqb, ltb, leb, ◌&&◌, slice_index, replicate}
+use Rattle.std.proofs.Common.{◌≡◌, ◌≢◌, ℕ, zero, suc, ◌+◌, ◌-◌, ◌*◌, ◌/◌, ◌%◌, ◌<◌, Bool, true, false, cond, List, [], ◌∷◌, ◌++◌, length, refl, sym, ap, ◌∙◌, subst, ⊎_elim, arith, append_assoc, length-append, All, flat_map, IsTrue}
+use Rattle.std.specs.Prelude.{eqb, ltb, ◌&&◌, slice_index, replicate}
 use Rattle.std.proofs.lemmas.Grind.{common_steps}
 use Rattle.std.proofs.lemmas.Bool.Decides.{nat_tests}
 use Rattle.std.specs.List.{AllByRecursion}
 use Rattle.std.proofs.lemmas.List.Elements.{All-from_recursion}
 use Rattle.std.proofs.lemmas.Bool.{cases_lt}
 use Rattle.v8m_isa.specs.declared.instr.Instr.{Instr}
-use Rattle.v8m_isa.specs.declared.instr.Instr.TheVariants.{Mov, Bxns, Udf, Sg, Movw, Movt, Bic, Ldr, Str, B, Msr}
+use Rattle.v8m_isa.specs.declared.instr.Instr.TheVariants.{Mov, Bxns, Udf, Movw, Movt, Msr}
 use Rattle.v8m_isa.specs.Form.{all_taken, takes, word_of, fields_put, put_all, bits_of, turn}
 use Rattle.v8m_isa.specs.Table.{in_range_of, size_of, code_of, opcode_of, numbers_of, row_of}
 use Rattle.ns_types.specs.Platform.{lies_in}
@@ -15,9 +15,9 @@ use Rattle.ns_types.specs.Memory.{half_at, word_at}
 use Rattle.v8m_core.specs.Step.{fetched, is_gateway}
 use Rattle.v8m_isa.proofs.Laws.{size-code_of, size_of_two_or_four}
 use Rattle.v8m_core.specs.Code.{two, HasCode, instr_bytes, code_bytes, AllInRange}
-use Rattle.v8m_core.proofs.Bytes.{half_at_seam, word_at_seam, length_bytes, has_code}
+use Rattle.v8m_core.proofs.Bytes.{word_at_seam, length_bytes, has_code}
 use Rattle.elf32.specs.Fields.{le32}
-use Rattle.constant_entry.specs.Code.{start_code, entry_code, gateway_code, vectors, used_bytes, gateway_bytes, rom_bytes, start_place, entry_place, stop_place}
+use Rattle.constant_entry.specs.Code.{start_code, entry_code, gateway_code, vectors, used_bytes, gateway_bytes, rom_bytes, start_place, entry_place}
 use Rattle.constant_entry.specs.Shows.{first_veneer, GivesConstant}
 
 -- how many bytes code has
@@ -87,7 +87,7 @@ zeros n = replicate n 0
 length-replicate : (n : ℕ) → length (zeros n) ≡ n
 length-replicate n = grind (arith, common_steps)
 
-used_size : (n : ℕ) → length (used_bytes n) ≡ 234
+pub used_size : (n : ℕ) → length (used_bytes n) ≡ 234
 used_size n =
     length-append (vectors ++ code_bytes start_code ++ 0 ∷ 0 ∷ [] ++ code_bytes (entry_code n)) (code_bytes (Udf 0 ∷ []))
     ∙ ap (λ k. k + length (code_bytes (Udf 0 ∷ []))) (length-append (vectors ++ code_bytes start_code ++ 0 ∷ 0 ∷ []) (code_bytes (entry_code n)) ∙ ap (λ k. k + length (code_bytes (entry_code n))) front_size)
@@ -191,3 +191,77 @@ pub instr_narrow : (i : Instr) (s : ℕ) → (code_of i).size ≡ s → s ≢ 4 
 instr_narrow i s e f =
     let n : size_of i ≡ 2 = ⊎_elim (λ t. t) (λ t. absurd (f (sym e ∙ size-code_of i ∙ t))) (size_of_two_or_four i) in
     ap (λ n. cond (eqb n 2) (two (code_of i).first) (two (code_of i).first ++ two (code_of i).second)) n
+
+-- the callable region, byte by byte
+abbrev cells : List ℕ → List ℕ
+cells rest = 127 ∷ 233 ∷ 127 ∷ 233 ∷ 1 ∷ 244 ∷ 100 ∷ 184 ∷ rest
+
+region_is : gateway_bytes ≡ cells (zeros 4088)
+region_is = ap (λ l. l ++ zeros 4088) gateway_cells
+
+abbrev opens_at : List ℕ → ℕ → Bool
+opens_at bytes k = eqb (half_at bytes k) 59775 && eqb (half_at bytes (k + 2)) 59775
+
+-- SG stands at the beginning, and at no other even place
+opens_first : (rest : List ℕ) → opens_at (cells rest) 0 ≡ true
+unfolding half_at
+opens_first rest = refl
+
+opens_nowhere : (n k : ℕ) → k % 2 ≡ 0 → k ≢ 0 → opens_at (cells (zeros n)) k ≡ false
+unfolding half_at
+opens_nowhere n zero even ne = absurd (ne refl)
+opens_nowhere n (suc zero) even ne = absurd (omega arith)
+opens_nowhere n (suc (suc zero)) even ne = refl
+opens_nowhere n (suc (suc (suc zero))) even ne = absurd (omega arith)
+opens_nowhere n (suc (suc (suc (suc zero)))) even ne = refl
+opens_nowhere n (suc (suc (suc (suc (suc zero))))) even ne = absurd (omega arith)
+opens_nowhere n (suc (suc (suc (suc (suc (suc zero)))))) even ne = refl
+opens_nowhere n (suc (suc (suc (suc (suc (suc (suc zero))))))) even ne = absurd (omega arith)
+opens_nowhere n (suc (suc (suc (suc (suc (suc (suc (suc j)))))))) even ne =
+    let nothing : half_at (cells (zeros n)) (suc (suc (suc (suc (suc (suc (suc (suc j)))))))) ≡ 0 = half_past (127 ∷ 233 ∷ 127 ∷ 233 ∷ 1 ∷ 244 ∷ 100 ∷ 184 ∷ []) (zeros n) j (suc (suc (suc (suc (suc (suc (suc (suc j)))))))) (omega arith) ∙ half_zero n j in
+    ap (λ x. eqb x 59775 && eqb (half_at (cells (zeros n)) (suc (suc (suc (suc (suc (suc (suc (suc j))))))) + 2)) 59775) nothing
+
+-- a gateway is open at the first veneer alone
+gateway_alone : (n a : ℕ) → a % 2 ≡ 0 → is_gateway (rom_bytes n) a ≡ eqb a first_veneer
+unfolding is_gateway
+gateway_alone n a even =
+    ⊎_elim
+    (λ below. let out : lies_in 3 a 4 ≡ false = grind (arith, nat_tests) in let ne : eqb a first_veneer ≡ false = grind (arith, nat_tests) in ap (λ b. b && opens) out ∙ sym ne)
+    (λ from.
+    ⊎_elim
+    (λ within.
+    let k = a - 272625664 in
+    let at : a ≡ 272625664 + k = omega arith in
+    let here : opens ≡ opens_at (cells (zeros 4088)) k = ap (λ x. eqb x 59775 && eqb (fetched (rom_bytes n) (a + 2)) 59775) (half_there n a k at) ∙ ap (λ x. eqb (half_at gateway_bytes k) 59775 && eqb x 59775) (half_there n (a + 2) (k + 2) (omega arith)) ∙ ap (λ l. opens_at l k) region_is in
+    let inn : lies_in 3 a 4 ≡ true = grind (arith, nat_tests) in
+    ap (λ b. b && opens) inn ∙ here
+    ∙ ⊎_elim
+    (λ first. let z : k ≡ 0 = omega arith in let e : eqb a first_veneer ≡ true = grind (arith, nat_tests) in ap (opens_at (cells (zeros 4088))) z ∙ opens_first (zeros 4088) ∙ sym e)
+    (λ later. let nz : k ≢ 0 = λ z. omega arith in let e : eqb a first_veneer ≡ false = grind (arith, nat_tests) in opens_nowhere 4088 k (omega arith) nz ∙ sym e)
+    (cases_lt a 272625665))
+    (λ past. let out : lies_in 3 a 4 ≡ false = grind (arith, nat_tests) in let ne : eqb a first_veneer ≡ false = grind (arith, nat_tests) in ap (λ b. b && opens) out ∙ sym ne)
+    (cases_lt a 272629757))
+    (cases_lt a 272625664)
+  where
+    opens : Bool
+    opens = eqb (fetched (rom_bytes n) a) 59775 && eqb (fetched (rom_bytes n) (a + 2)) 59775
+
+-- the first two words
+first_words : (n : ℕ) → (word_at (rom_bytes n) 0 ≡ 805404664) × (word_at (rom_bytes n) 4 ≡ start_place + 1)
+first_words n =
+    let rest : List ℕ = flat_map le32 (268435689 ∷ 268435689 ∷ 268435689 ∷ 268435689 ∷ 268435689 ∷ 268435689 ∷ 268435689 ∷ 268435689 ∷ 268435689 ∷ 268435689 ∷ 268435689 ∷ 268435689 ∷ 268435689 ∷ 268435689 ∷ []) ++ (code_bytes start_code ++ (0 ∷ 0 ∷ [] ++ (code_bytes (entry_code n) ++ (code_bytes (Udf 0 ∷ []) ++ (zeros (4190208 - length (used_bytes n)) ++ gateway_bytes))))) in
+    let e : rom_bytes n ≡ le32 805404664 ++ (le32 268435521 ++ rest) = pieces_2 vectors (code_bytes start_code) (0 ∷ 0 ∷ []) (code_bytes (entry_code n)) (code_bytes (Udf 0 ∷ [])) (zeros (4190208 - length (used_bytes n))) gateway_bytes in
+    (ap (λ l. word_at l 0) e ∙ word_at_seam [] (le32 268435521 ++ rest) 805404664 0 (omega arith) refl, ap (λ l. word_at l 4) e ∙ word_at_seam (le32 805404664) rest 268435521 4 (omega arith) refl)
+
+pub gives_constant : (n : ℕ) → n < 4294967296 → GivesConstant (rom_bytes n) n
+gives_constant n h = record {
+  stack = (first_words n).0;
+  reset = (first_words n).1;
+  start = start_stands n;
+  gateway = gateway_stands n;
+  entry = entry_stands n h;
+  alone = gateway_alone n;
+}
+
+pub region_size : length gateway_bytes ≡ 4096
+region_size = length-append (code_bytes gateway_code) (zeros 4088) ∙ ap (λ k. k + length (zeros 4088)) gateway_size ∙ ap (λ k. 8 + k) (length-replicate 4088)

@@ -1,33 +1,32 @@
 -- The machine does what a program whose one entry gives a number does, for every start, list of turns and bound.
-use Rattle.std.proofs.Common.{◌≡◌, ◌≢◌, ℕ, zero, suc, ◌+◌, ◌-◌, ◌*◌, ◌/◌, ◌%◌, ◌<◌, ◌≤◌, ◌⊎◌, Bool, true, false, cond, List, [], ◌∷◌, ◌++◌, length, refl, sym, ap, ◌∙◌, subst, ⊎_elim, inl, inr, arith, Option, Some, None, append_assoc}
-use Rattle.std.specs.Prelude.{eqb, ltb, leb, ◌&&◌, ◌||◌, not, min, take, max}
+use Rattle.std.proofs.Common.{◌≡◌, ◌≢◌, ℕ, zero, suc, ◌+◌, ◌-◌, ◌%◌, ◌≤◌, Bool, true, false, cond, List, [], ◌∷◌, ◌++◌, length, refl, sym, ap, ◌∙◌, subst, arith, Option, Some, None, append_assoc}
+use Rattle.std.specs.Prelude.{eqb, ◌&&◌, not, take}
 use Rattle.std.proofs.lemmas.Bool.Decides.{nat_tests}
 use Rattle.cm_base.specs.declared.stop.Stop.{Stop}
 use Rattle.cm_base.specs.declared.stop.Stop.TheVariants as stop
 use Rattle.v8m_isa.specs.Table.{size_of, opcode_of, row_of}
-use Rattle.v8m_isa.specs.declared.instr.Instr.TheVariants.{Bxns, B}
+use Rattle.v8m_isa.specs.declared.instr.Instr.TheVariants.{Bxns}
 use Rattle.ns_types.specs.declared.goes.Goes.{Goes}
 use Rattle.ns_types.specs.declared.goes.Goes.TheVariants as goes
 use Rattle.ns_types.specs.declared.event.Event.{Event}
-use Rattle.ns_types.specs.declared.event.Event.TheVariants as event
 use Rattle.ns_types.specs.declared.event.CEvent.{CEvent}
 use Rattle.ns_types.specs.declared.event.CEvent.TheVariants as c
 use Rattle.ns_types.specs.declared.event.End.TheVariants as end
 use Rattle.ns_types.specs.declared.event.Events.{Events}
-use Rattle.ns_types.specs.declared.state.Side.TheVariants.{Secure, NonSecure, Stopped}
+use Rattle.ns_types.specs.declared.state.Side.TheVariants.{NonSecure}
 use Rattle.ns_types.specs.declared.turn.Turn.{Turn}
 use Rattle.ns_types.specs.declared.turn.View.{View}
 use Rattle.ns_types.specs.State.{State, Memory}
 use Rattle.ns_types.specs.Platform.{is_readable, is_secure, is_nonsecure, is_in_rom, aligned}
 use Rattle.ns_types.specs.Memory.{word_at, load}
-use Rattle.ns_types.specs.Boundary.{Mark, Acted, acted, in_four, kept_of, view, view_of, goes_of, goes_or, goes_outside, function_return}
+use Rattle.ns_types.specs.Boundary.{Mark, Acted, acted, in_four, kept_of, view, goes_of, goes_or, goes_outside, function_return}
 use Rattle.ns_types.specs.CRun.{Marked, World, Outcome, Gave, Over, emit, mark_at, reach, chain, phase, at_top, run_of, stop_or}
 use Rattle.ns_types.specs.CRun as crun
 use Rattle.ns_types.specs.Show.{Shown, show, shown_of, given_if, events_shown}
 use Rattle.v8m_core.specs.declared.stepped.Stepped.{Stepped}
 use Rattle.v8m_core.specs.declared.stepped.Stepped.TheVariants as what
-use Rattle.v8m_core.specs.Step.{Done, went, stopped, unless, seen, handed, entered, returned, turned, turn_of, step_of, return_stop, return_to, arrived, bxns, goes_in, is_gateway, gateway_at, effect_of, apply}
-use Rattle.v8m_core.specs.Code.{Holds, HasCode, Comes}
+use Rattle.v8m_core.specs.Step.{Done, went, stopped, unless, seen, handed, entered, returned, turned, turn_of, return_stop, return_to, arrived, bxns, goes_in, effect_of, apply}
+use Rattle.v8m_core.specs.Code.{Comes}
 use Rattle.ns_turns.specs.Run as m
 use Rattle.ns_turns.specs.Run.{ends, after, event_of}
 use Rattle.v8m_core.proofs.Runs.{does, has_front, has_back}

@@ -1,34 +1,29 @@
 -- The start code and an entry that gives a constant show two views, whatever the caller sets and Secure memory holds.
-use Rattle.std.proofs.Common.{◌≡◌, ◌≢◌, ℕ, zero, suc, ◌+◌, ◌-◌, ◌*◌, ◌/◌, ◌%◌, ◌<◌, ◌≤◌, ◌⊎◌, Bool, true, false, cond, List, [], ◌∷◌, ◌++◌, length, refl, sym, ap, ◌∙◌, subst, ⊎_elim, inl, inr, arith, Option, Some, None}
-use Rattle.std.specs.Prelude.{eqb, ltb, leb, ◌&&◌, ◌||◌, bit_and}
+use Rattle.std.proofs.Common.{◌≡◌, ℕ, suc, ◌+◌, ◌%◌, true, List, [], ◌∷◌, ◌++◌, refl, sym, ap, ◌∙◌, subst, ⊎_elim, arith}
+use Rattle.std.specs.Prelude.{eqb, ◌&&◌, bit_and}
 use Rattle.std.proofs.lemmas.Bool.Decides.{nat_tests}
 use Rattle.v8m_isa.specs.Table.{size_of, code_of, opcode_of, row_of, numbers_of}
 use Rattle.v8m_isa.specs.Form.{word_of, fields_put, put_all, bits_of}
-use Rattle.v8m_isa.specs.declared.instr.Instr.{Instr}
 use Rattle.v8m_isa.specs.declared.instr.Instr.TheVariants.{Bxns, B, Sg}
-use Rattle.ns_types.specs.declared.event.Event.TheVariants as event
 use Rattle.ns_types.specs.declared.event.End.TheVariants as end
-use Rattle.ns_types.specs.declared.event.Events.{Events}
-use Rattle.ns_types.specs.declared.state.Side.TheVariants.{Secure, NonSecure}
+use Rattle.ns_types.specs.declared.state.Side.TheVariants.{NonSecure}
 use Rattle.ns_types.specs.declared.turn.Turn.{Turn}
 use Rattle.ns_types.specs.declared.turn.Start.{Start}
 use Rattle.ns_types.specs.declared.turn.View.{View}
-use Rattle.ns_types.specs.State.{State, get_of}
+use Rattle.ns_types.specs.State.{State}
 use Rattle.ns_types.specs.Platform.{is_nonsecure, aligned}
-use Rattle.ns_types.specs.Memory.{word_at, store}
+use Rattle.ns_types.specs.Memory.{word_at}
 use Rattle.ns_types.specs.Boundary.{reset_address}
-use Rattle.v8m_core.specs.declared.stepped.Stepped.{Stepped}
 use Rattle.v8m_core.specs.declared.stepped.Stepped.TheVariants as what
-use Rattle.v8m_core.specs.Step.{Done, fetched, is_gateway, went, seen, handed, entered, turned, turn_of, step_of, bxns, effect_of, apply, sum32}
-use Rattle.v8m_core.specs.Code.{Holds, HasCode, past, Comes}
+use Rattle.v8m_core.specs.Step.{Done, fetched, is_gateway, went, seen, handed, entered, turned, step_of, bxns, effect_of, apply, sum32}
+use Rattle.v8m_core.specs.Code.{Holds, HasCode, Comes}
 use Rattle.v8m_core.specs.Reset.{reset_of}
-use Rattle.ns_turns.specs.Run.{ends, after, run_of, machine_run}
-use Rattle.ns_turns.specs.Prefix.{IsFront}
-use Rattle.constant_entry.specs.Code.{stacks_code, hand_code, start_front, start_code, entry_front, entry_code, gateway_code, start_place, entry_place}
+use Rattle.ns_turns.specs.Run.{after, run_of, machine_run}
+use Rattle.constant_entry.specs.Code.{stacks_code, hand_code, start_front, entry_front, start_place, entry_place}
 use Rattle.constant_entry.proofs.States.{sealed, handing, answering}
 use Rattle.constant_entry.specs.Shows.{first_veneer, GivesConstant, CallsFirst, started_view, result_view, two_views, ShowsConstant}
-use Rattle.v8m_core.proofs.Runs.{does, straight, comes_on, has_front, has_back}
-use Rattle.ns_turns.proofs.RunLaws.{run_step, run_turn, run_waits, run_comes, comes_secure, fronts}
+use Rattle.v8m_core.proofs.Runs.{does, comes_on, has_front, has_back}
+use Rattle.ns_turns.proofs.RunLaws.{run_step, run_turn, run_waits, run_comes, fronts}
 use Rattle.v8m_core.proofs.GateLaws.{word_at_lt, clear_bit_0, aligned_even, store_ns_rom, bxns_hands, turn_enters}
 use Rattle.constant_entry.proofs.Pieces.{seal_runs, hand_runs, answer_runs}
 

@@ -1,36 +1,31 @@
 -- From reset: the start code, and then turn by turn.
-use Rattle.std.proofs.Common.{◌≡◌, ◌≢◌, ℕ, zero, suc, ◌+◌, ◌-◌, ◌*◌, ◌/◌, ◌%◌, ◌<◌, ◌≤◌, ◌⊎◌, Bool, true, false, cond, List, [], ◌∷◌, ◌++◌, length, refl, sym, ap, ◌∙◌, subst, ⊎_elim, inl, inr, arith, Option, Some, None}
+use Rattle.std.proofs.Common.{◌≡◌, ℕ, suc, ◌+◌, ◌%◌, List, [], ◌++◌, length, refl, sym, ap, ◌∙◌, subst, inl, arith, Some}
 use Rattle.std.specs.Prelude.{eqb, min}
 use Rattle.v8m_isa.specs.declared.instr.Instr.TheVariants.{Bxns}
 use Rattle.v8m_isa.specs.Table.{size_of, opcode_of, row_of}
-use Rattle.ns_types.specs.declared.goes.Goes.{Goes}
 use Rattle.ns_types.specs.declared.event.CEvent.TheVariants as c
-use Rattle.ns_types.specs.declared.event.End.TheVariants as end
 use Rattle.ns_types.specs.declared.event.Events.{Events}
-use Rattle.ns_types.specs.declared.event.Bound.{Bound}
-use Rattle.ns_types.specs.declared.turn.Turn.{Turn}
-use Rattle.ns_types.specs.declared.turn.Start.{Start}
-use Rattle.ns_types.specs.State.{State, Memory}
+use Rattle.ns_types.specs.State.{State}
 use Rattle.ns_types.specs.Platform.{aligned}
 use Rattle.ns_types.specs.Memory.{word_at, store, put_word}
-use Rattle.ns_types.specs.Boundary.{Mark, in_four, eight_zeros, goes_of, reset_address, start_mark, view_of}
-use Rattle.ns_types.specs.CRun.{Marked, World, Outcome, chain, phase, at_top, run_of, fresh}
+use Rattle.ns_types.specs.Boundary.{in_four, eight_zeros, goes_of, reset_address, start_mark}
+use Rattle.ns_types.specs.CRun.{chain, phase, fresh}
 use Rattle.ns_types.specs.Show.{show, shown_of, given_if, events_shown}
 use Rattle.v8m_core.specs.declared.stepped.Stepped.{Stepped}
 use Rattle.v8m_core.specs.declared.stepped.Stepped.TheVariants as what
 use Rattle.v8m_core.specs.Step.{Done, seen, bxns, arrived, effect_of, apply}
 use Rattle.v8m_core.specs.Code.{HasCode}
-use Rattle.v8m_mem.specs.Rows.{IsStart, memory_of}
+use Rattle.v8m_mem.specs.Rows.{memory_of}
 use Rattle.v8m_core.specs.Reset.{reset_of}
 use Rattle.ns_turns.specs.Run as m
 use Rattle.ns_turns.specs.Run.{after, event_of, machine_run}
-use Rattle.ns_turns.specs.Refines.{seen_of, Same, Refines}
+use Rattle.ns_turns.specs.Refines.{Refines}
 use Rattle.v8m_core.proofs.Runs.{does}
 use Rattle.v8m_core.proofs.GateLaws.{aligned_even, aligned_twice}
 use Rattle.v8m_core.proofs.Words.{same_word, other_word, length-put_word}
 use Rattle.ns_turns.proofs.RunLaws.{run_step, run_comes}
 use Rattle.constant_entry.specs.Code.{start_code, start_place}
-use Rattle.constant_entry.specs.Shows.{first_veneer, GivesConstant, started_view}
+use Rattle.constant_entry.specs.Shows.{first_veneer, GivesConstant}
 use Rattle.constant_entry.specs.Meaning.{enters_first, gives, constant_run}
 use Rattle.constant_entry.proofs.States.{sealed, handing}
 use Rattle.constant_entry.proofs.Views.{starts, start_lr, start_seen, sealed_ns_rom}

@@ -1,6 +1,8 @@
 //! The Secure ROM of a program whose one entry gives a number, and what the machine shows of it.
 #![tactic(auto)]
 
+pub mod laws;
+
 ghost use Rattle.std.specs.Prelude.{◌≡◌, ◌++◌, ◌∷◌, [], replicate, OnOk, IfOk, IsTrue, All};
 ghost use Rattle.v8m_isa.specs.Table.{in_range_of};
 ghost use Rattle.v8m_core.specs.Code.{instr_bytes, code_bytes};

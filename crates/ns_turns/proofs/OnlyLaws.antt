@@ -1,5 +1,5 @@
 -- The machine has one run, so what holds for some number of steps at each bound says what each number of steps shows.
-use Rattle.std.proofs.Common.{◌≡◌, ◌≢◌, ℕ, zero, suc, ◌+◌, ◌<◌, ◌≤◌, ◌⊎◌, Bool, true, false, List, [], ◌∷◌, ◌++◌, refl, sym, ap, ◌∙◌, subst, ⊎_elim, inl, inr, arith, append_assoc, Option}
+use Rattle.std.proofs.Common.{◌≡◌, ◌≢◌, ℕ, suc, ◌≤◌, ◌⊎◌, Bool, true, false, List, [], ◌∷◌, ◌++◌, refl, sym, ap, ◌∙◌, ⊎_elim, inl, inr, arith, append_assoc, Option}
 use Rattle.std.specs.Prelude.{min, ◌&&◌}
 use Rattle.std.proofs.lemmas.Bool.{cases_lt}
 use Rattle.cm_base.specs.declared.stop.Stop.TheVariants.{StackLimit}
@@ -12,9 +12,8 @@ use Rattle.ns_types.specs.declared.event.Bound.{Bound}
 use Rattle.ns_types.specs.declared.turn.Turn.{Turn}
 use Rattle.ns_types.specs.declared.turn.Start.{Start}
 use Rattle.ns_types.specs.CRun.{Run}
-use Rattle.v8m_mem.specs.Rows.{IsStart}
 use Rattle.v8m_core.specs.Reset.{reset_of}
-use Rattle.ns_turns.specs.Run.{machine_run, run_of}
+use Rattle.ns_turns.specs.Run.{machine_run}
 use Rattle.ns_turns.specs.Prefix.{IsFront}
 use Rattle.ns_turns.specs.Refines.{seen_of, Same, OutOfRoom, room, Refines, is_clean_event, is_clean, OnlyShows, Only}
 use Rattle.ns_turns.proofs.RunLaws.{GoesOn, run_goes}
@@ -65,36 +64,47 @@ only_from_refines rom enters run refines clean start whole ts n = (b, ⊎_elim s
   where
     b : Bound
     b = record { turns = suc n; deep = suc n }
+
     got : (k : ℕ) × (Same (machine_run rom start ts k) (seen_of enters (run start ts b)) (run start ts b) (min b.turns b.deep) k ⊎ OutOfRoom (machine_run rom start ts k) (seen_of enters (run start ts b)) (run start ts b) room)
     got = refines start whole ts b
+
     k : ℕ
     k = got.0
+
     mn : Events
     mn = machine_run rom start ts n
+
     mk : Events
     mk = machine_run rom start ts k
+
     c : Run
     c = run start ts b
+
     seen : List Event
     seen = seen_of enters c
+
     sooner : n ≤ k → GoesOn mn mk
     sooner le = run_goes rom n k ts (reset_of rom start) le
+
     later : k ≤ n → GoesOn mk mn
     later le = run_goes rom k n ts (reset_of rom start) le
+
     Out : Type 0
     Out = OnlyShows mn seen c
+
     whole_list : mn.list ≡ seen → (mn.end ≡ end.Waiting → c.end ≡ end.Waiting) → Out
     whole_list e w = record { before = seen; list = inl e; front = ([], append_none seen); clean = clean start ts b; waits = λ h. (w h, e) }
+
     same_case : Same mk seen c (min b.turns b.deep) k → Out
     same_case s =
-      ⊎_elim
-      (λ above. ⊎_elim
-      (λ spent. absurd (let r = s.spent spent in omega (arith, r.1)))
-      (λ ended.
+        ⊎_elim
+        (λ above. ⊎_elim
+        (λ spent. absurd (let r = s.spent spent in omega (arith, r.1)))
+        (λ ended.
         let is : mn ≡ mk = (later (omega arith)).over (λ h. ended (sym (s.ended ended) ∙ h)) in
         whole_list (ap (λ (x : Events). x.list) is ∙ s.list) (λ h. sym (s.ended ended) ∙ sym (ap (λ (x : Events). x.end) is) ∙ h))
-      (is_spent c.end))
-      (λ below.
+        (is_spent c.end))
+        (λ below.
         let g = sooner below in
         let f : IsFront mn.list seen = (g.front.0, g.front.1 ∙ s.list) in
         record {
@@ -103,15 +113,16 @@ only_from_refines rom enters run refines clean start whole ts n = (b, ⊎_elim s
           front = f;
           clean = clean_front mn.list seen f (clean start ts b);
           waits = λ h.
-          let is : mk ≡ mn = g.over (λ z. let x : end.Waiting ≡ end.Spent = sym h ∙ z in cc) in
-          let waiting : mk.end ≡ end.Waiting = ap (λ (x : Events). x.end) is ∙ h in
-          (⊎_elim (λ spent. absurd (let x : end.Waiting ≡ end.Spent = sym waiting ∙ (s.spent spent).0 in cc)) (λ ended. sym (s.ended ended) ∙ waiting) (is_spent c.end), sym (ap (λ (x : Events). x.list) is) ∙ s.list);
+              let is : mk ≡ mn = g.over (λ z. let x : end.Waiting ≡ end.Spent = sym h ∙ z in cc) in
+              let waiting : mk.end ≡ end.Waiting = ap (λ (x : Events). x.end) is ∙ h in
+              (⊎_elim (λ spent. absurd (let x : end.Waiting ≡ end.Spent = sym waiting ∙ (s.spent spent).0 in cc)) (λ ended. sym (s.ended ended) ∙ waiting) (is_spent c.end), sym (ap (λ (x : Events). x.list) is) ∙ s.list);
         })
-      (cases_lt k n)
+        (cases_lt k n)
+
     room_case : OutOfRoom mk seen c room → Out
     room_case o =
-      ⊎_elim
-      (λ above.
+        ⊎_elim
+        (λ above.
         let is : mn ≡ mk = (later (omega arith)).over (λ h. let x : end.Stopped ≡ end.Spent = sym o.end ∙ h in cc) in
         record {
           before = o.before;
@@ -120,11 +131,11 @@ only_from_refines rom enters run refines clean start whole ts n = (b, ⊎_elim s
           clean = clean_front o.before seen o.front (clean start ts b);
           waits = λ h. absurd (let x : end.Waiting ≡ end.Stopped = sym h ∙ ap (λ (y : Events). y.end) is ∙ o.end in cc);
         })
-      (λ below.
+        (λ below.
         let g = sooner below in
         let stays : mn.end ≡ end.Waiting → (c.end ≡ end.Waiting) × (mn.list ≡ seen) = λ h. absurd (let is : mk ≡ mn = g.over (λ z. let x : end.Waiting ≡ end.Spent = sym h ∙ z in cc) in let x : end.Waiting ≡ end.Stopped = sym h ∙ sym (ap (λ (y : Events). y.end) is) ∙ o.end in cc) in
         ⊎_elim
         (λ f. let all = front_trans mn.list o.before seen f o.front in record { before = mn.list; list = inl refl; front = all; clean = clean_front mn.list seen all (clean start ts b); waits = stays })
         (λ e. record { before = o.before; list = inr (e, o.need); front = o.front; clean = clean_front o.before seen o.front (clean start ts b); waits = stays })
         (front_or_all mn.list o.before (event.Stopped StackLimit) (g.front.0, g.front.1 ∙ o.list)))
-      (cases_lt k n)
+        (cases_lt k n)

@@ -1,16 +1,13 @@
 -- Laws of runs: how a run goes on, that more steps only add events, and that a run that is over stays so.
-use Rattle.std.proofs.Common.{◌≡◌, ◌≢◌, ℕ, zero, suc, ◌+◌, ◌-◌, ◌<◌, ◌≤◌, ◌⊎◌, List, [], ◌∷◌, ◌++◌, refl, sym, ap, ◌∙◌, subst, ⊎_elim, inl, inr, arith, append_assoc}
+use Rattle.std.proofs.Common.{◌≡◌, ◌≢◌, ℕ, zero, suc, ◌+◌, ◌≤◌, List, [], ◌∷◌, ◌++◌, refl, sym, ap, ◌∙◌, subst, ⊎_elim, arith, append_assoc}
 use Rattle.std.proofs.lemmas.Bool.{cases_lt}
 use Rattle.ns_types.specs.declared.event.Event.{Event}
-use Rattle.ns_types.specs.declared.event.Event.TheVariants as event
-use Rattle.ns_types.specs.declared.event.End.{End}
 use Rattle.ns_types.specs.declared.event.End.TheVariants as end
 use Rattle.ns_types.specs.declared.event.Events.{Events}
 use Rattle.ns_types.specs.declared.state.Side.{Side}
 use Rattle.ns_types.specs.declared.state.Side.TheVariants.{Secure, NonSecure, Stopped}
 use Rattle.ns_types.specs.declared.turn.Turn.{Turn}
 use Rattle.ns_types.specs.State.{State}
-use Rattle.v8m_core.specs.declared.stepped.Stepped.TheVariants as what
 use Rattle.v8m_core.specs.Step.{Done, went, step_of, turn_of}
 use Rattle.v8m_core.specs.Code.{Comes}
 use Rattle.v8m_core.proofs.Runs.{stays}

@@ -1,5 +1,5 @@
 -- What a run makes of a step, by who runs.
-use Rattle.std.proofs.Common.{◌≡◌, ℕ, zero, suc, ◌+◌, ◌-◌, ◌<◌, ◌≤◌, List, [], ◌∷◌, ◌++◌, length, refl, sym, ap, ◌∙◌, arith, append_assoc, Result, Ok, Err}
+use Rattle.std.proofs.Common.{◌≡◌, ℕ, suc, ◌+◌, ◌-◌, ◌<◌, List, [], ◌∷◌, ◌++◌, length, refl, sym, ap, ◌∙◌, arith, append_assoc, Result}
 use Rattle.std.proofs.lemmas.List.{append-nil}
 use Rattle.cm_base.specs.declared.stop.Stop.{Stop}
 use Rattle.ns_types.specs.declared.event.Event.{Event}

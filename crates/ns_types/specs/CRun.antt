@@ -1,6 +1,6 @@
 -- A run of the program behind the boundary, for any meaning of entry bodies: what the Non-secure turns and the program
 -- do in turn. A meaning gives enter, which runs the body of an entry; it may itself go on with a phase of turns.
-use Rattle.std.specs.Prelude.{ℕ, zero, suc, max, Bool, cond, eqb, List, [], ◌∷◌, ◌++◌, take, length, slice_index, Option, Some, None}
+use Rattle.std.specs.Prelude.{ℕ, zero, suc, max, List, [], ◌∷◌, ◌++◌, take, length, slice_index, Option, Some, None}
 use Rattle.cm_base.specs.declared.stop.Stop.{Stop}
 use Rattle.cm_base.specs.declared.stop.Stop.TheVariants.{ReturnFault, EntryPoint, Astray}
 use Rattle.ns_types.specs.declared.goes.Goes.{Goes}
@@ -13,7 +13,6 @@ use Rattle.ns_types.specs.declared.event.End.{End}
 use Rattle.ns_types.specs.declared.event.End.TheVariants as end
 use Rattle.ns_types.specs.State.{Memory}
 use Rattle.ns_types.specs.Platform.{aligned}
-use Rattle.ns_types.specs.Memory.{word_at}
 use Rattle.ns_types.specs.Boundary.{goes_of, acted, Mark, in_four, eight_zeros, kept_of, start_mark, reset_address}
 
 -- an event with what stands beside it
@@ -99,9 +98,9 @@ phase enters enter turns zero w = take_turn (Over end.Waiting w) (λ t rest. Ove
 phase enters enter turns (suc fuel) w =
     take_turn (Over end.Waiting w)
     (λ t rest.
-      let after = acted t.items w.memory.ns_ram in
-      let u = turned t rest after.ram w in
-      stop_or after.stop u (chain enters enter (phase enters enter turns fuel) (aligned 2 t.lr) (kept_of t) turns (goes_of enters t.target) (take 4 t.r) u))
+    let after = acted t.items w.memory.ns_ram in
+    let u = turned t rest after.ram w in
+    stop_or after.stop u (chain enters enter (phase enters enter turns fuel) (aligned 2 t.lr) (kept_of t) turns (goes_of enters t.target) (take 4 t.r) u))
     w.turns
 
 -- a return with no call pending

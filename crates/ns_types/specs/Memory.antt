@@ -1,5 +1,5 @@
 -- Memory by rows, little endian.
-use Rattle.std.specs.Prelude.{◌≡◌, ℕ, ◌+◌, ◌-◌, ◌*◌, ◌/◌, ◌%◌, Bool, cond, ◌||◌, eqb, List, length, slice_index, slice_set, Option, Some, None}
+use Rattle.std.specs.Prelude.{◌≡◌, ℕ, ◌+◌, ◌-◌, ◌*◌, ◌/◌, ◌%◌, cond, ◌||◌, eqb, List, length, slice_index, slice_set, Option, Some, None}
 use Rattle.ns_types.specs.Platform.{row, in_row, is_readable, is_writable}
 use Rattle.ns_types.specs.State.{Memory}
 

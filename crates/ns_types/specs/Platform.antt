@@ -1,5 +1,5 @@
 -- The regions of the device, by their rows.
-use Rattle.std.specs.Prelude.{ℕ, ◌+◌, ◌-◌, ◌%◌, Bool, true, false, cond, ◌&&◌, ◌||◌, eqb, ltb, leb, Option, Some, None, slice_index_or}
+use Rattle.std.specs.Prelude.{ℕ, ◌+◌, ◌-◌, ◌%◌, Bool, cond, ◌&&◌, ◌||◌, ltb, leb, Option, Some, None, slice_index_or}
 use Rattle.cm_base.specs.declared.regions.Row.{Row}
 use Rattle.cm_base.specs.declared.regions.TheConstants.{PLATFORM}
 

@@ -1,14 +1,14 @@
 -- Code stands where its bytes stand.
-use Rattle.std.proofs.Common.{◌≡◌, ℕ, zero, suc, ◌+◌, ◌-◌, ◌*◌, ◌/◌, ◌%◌, ◌<◌, ◌≤◌, ◌⊎◌, Bool, true, false, cond, List, [], ◌∷◌, ◌++◌, length, refl, sym, ap, ◌∙◌, subst, ⊎_elim, inl, inr, arith, append_assoc, length-append}
+use Rattle.std.proofs.Common.{◌≡◌, ℕ, ◌+◌, ◌-◌, ◌/◌, ◌%◌, ◌<◌, ◌≤◌, ◌⊎◌, true, cond, List, [], ◌∷◌, ◌++◌, length, refl, sym, ap, ◌∙◌, subst, ⊎_elim, inl, inr, arith, append_assoc, length-append}
 use Rattle.std.specs.Prelude.{eqb, slice_index}
 use Rattle.std.proofs.lemmas.Grind.{common_steps}
 use Rattle.std.proofs.lemmas.Bool.Decides.{nat_tests}
 use Rattle.v8m_isa.specs.declared.instr.Instr.{Instr}
-use Rattle.v8m_isa.specs.Table.{in_range_of, size_of, code_of}
+use Rattle.v8m_isa.specs.Table.{size_of, code_of}
 use Rattle.ns_types.specs.Platform.{is_in_rom}
 use Rattle.ns_types.specs.Memory.{half_at, word_at}
 use Rattle.v8m_core.specs.Step.{fetched}
-use Rattle.v8m_core.specs.Code.{Holds, HasCode, two, instr_bytes, code_bytes, AllInRange}
+use Rattle.v8m_core.specs.Code.{HasCode, two, instr_bytes, code_bytes, AllInRange}
 use Rattle.v8m_isa.proofs.Laws.{size_of_two_or_four, first-code_of_lt, second-code_of_lt}
 
 -- a halfword where its bytes stand
@@ -69,9 +69,9 @@ has_code (i ∷ is) rom pre post e fit all =
         place = (let a : 268435456 + length pre < 272629760 = omega arith in grind (arith, nat_tests));
         first = ap (half_at rom) back ∙ first_stands i rom pre (code_bytes is ++ post) e';
         second = ⊎_elim
-        (λ s. inl s)
-        (λ s. ⊎_elim {C = (size_of i ≡ 2) ⊎ ((is_in_rom (268435456 + length pre + 2) ≡ true) × (fetched rom (268435456 + length pre + 2) ≡ (code_of i).second))} (λ t. inl t) (λ h. inr ((let a : 268435456 + length pre + 2 < 272629760 = omega arith in grind (arith, nat_tests)), ap (half_at rom) back2 ∙ h)) (second_stands i rom pre (code_bytes is ++ post) e'))
-        (size_of_two_or_four i);
+            (λ s. inl s)
+            (λ s. ⊎_elim {C = (size_of i ≡ 2) ⊎ ((is_in_rom (268435456 + length pre + 2) ≡ true) × (fetched rom (268435456 + length pre + 2) ≡ (code_of i).second))} (λ t. inl t) (λ h. inr ((let a : 268435456 + length pre + 2 < 272629760 = omega arith in grind (arith, nat_tests)), ap (half_at rom) back2 ∙ h)) (second_stands i rom pre (code_bytes is ++ post) e'))
+            (size_of_two_or_four i);
       },
       subst (λ p. HasCode rom p is) m (has_code is rom (pre ++ instr_bytes i) post e'' fit all.1),
     )

@@ -1,19 +1,17 @@
 -- What the gates do where the tests on the way are known.
-use Rattle.std.proofs.Common.{◌≡◌, ◌≢◌, ℕ, zero, suc, ◌+◌, ◌-◌, ◌*◌, ◌/◌, ◌%◌, ◌^◌, ◌<◌, ◌≤◌, ◌⊎◌, Bool, true, false, cond, List, [], ◌∷◌, refl, sym, ap, ◌∙◌, subst, ⊎_elim, inl, inr, arith, Option, Some, None}
-use Rattle.std.specs.Prelude.{bit_and, eqb, ltb, leb, ◌&&◌, ◌||◌}
+use Rattle.std.proofs.Common.{◌≡◌, ℕ, ◌+◌, ◌-◌, ◌%◌, ◌<◌, Bool, true, false, cond, List, [], refl, ap, ◌∙◌, arith, Some, None}
+use Rattle.std.specs.Prelude.{bit_and, eqb, ◌&&◌}
 use Rattle.std.proofs.lemmas.Bool.Decides.{nat_tests}
 use Rattle.std.proofs.lemmas.Nat.Bits.{and_high_mask}
 use Rattle.cm_base.specs.declared.stop.Stop.TheVariants as stop
-use Rattle.ns_types.specs.declared.goes.Goes.{Goes}
 use Rattle.ns_types.specs.declared.goes.Goes.TheVariants as goes
 use Rattle.ns_types.specs.declared.turn.Turn.{Turn}
 use Rattle.ns_types.specs.State.{State, Memory}
 use Rattle.ns_types.specs.Platform.{row, in_row, is_secure, is_nonsecure, is_in_rom, lies_in, aligned}
 use Rattle.ns_types.specs.Memory.{word_at, store, put_number}
-use Rattle.ns_types.specs.Boundary.{function_return, goes_outside, goes_or, goes_of, acted}
-use Rattle.v8m_core.specs.declared.stepped.Stepped.{Stepped}
+use Rattle.ns_types.specs.Boundary.{function_return, goes_or, goes_of, acted}
 use Rattle.v8m_core.specs.declared.stepped.Stepped.TheVariants as what
-use Rattle.v8m_core.specs.Step.{Done, went, stopped, fetched, is_gateway, gateway_at, goes_in, seen, entered, handed, return_to, arrived, bxns, turned, turn_of, unless}
+use Rattle.v8m_core.specs.Step.{went, stopped, fetched, is_gateway, gateway_at, goes_in, seen, entered, handed, return_to, arrived, bxns, turned, turn_of, unless}
 
 pub word_at_lt : (bytes : List ℕ) (o : ℕ) → word_at bytes o < 4294967296
 unfolding word_at

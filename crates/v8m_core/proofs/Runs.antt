@@ -1,6 +1,6 @@
 -- Runs of code in Secure ROM.
-use Rattle.std.proofs.Common.{◌≡◌, ◌≢◌, ℕ, zero, suc, ◌+◌, ◌-◌, ◌*◌, ◌<◌, ◌≤◌, ◌⊎◌, Bool, true, false, cond, List, [], ◌∷◌, ◌++◌, length, refl, sym, ap, ◌∙◌, subst, ⊎_elim, inl, inr, arith, Option, Some, None}
-use Rattle.std.specs.Prelude.{◌%◌, ◌&&◌, not, eqb, ltb}
+use Rattle.std.proofs.Common.{◌≡◌, ◌≢◌, ℕ, zero, suc, ◌+◌, Bool, true, false, cond, List, [], ◌∷◌, ◌++◌, length, refl, sym, ap, ◌∙◌, subst, ⊎_elim, arith, Option, Some, None}
+use Rattle.std.specs.Prelude.{eqb}
 use Rattle.cm_base.specs.declared.stop.Stop.{Stop}
 use Rattle.cm_base.specs.declared.stop.Stop.TheVariants as stop
 use Rattle.v8m_isa.specs.declared.instr.Instr.{Instr}
@@ -11,13 +11,13 @@ use Rattle.ns_types.specs.declared.goes.Goes.TheVariants as goes
 use Rattle.ns_types.specs.declared.state.Cpu.{Cpu}
 use Rattle.ns_types.specs.declared.state.Side.TheVariants.{Secure}
 use Rattle.ns_types.specs.State.{State}
-use Rattle.ns_types.specs.Platform.{is_in_rom, aligned, in_row}
+use Rattle.ns_types.specs.Platform.{is_in_rom}
 use Rattle.v8m_core.specs.declared.stepped.Stepped.{Stepped}
 use Rattle.v8m_core.specs.declared.stepped.Stepped.TheVariants as what
 use Rattle.v8m_core.specs.declared.effect.Effect.{Effect}
 use Rattle.v8m_core.specs.declared.effect.Effect.TheVariants as effect
-use Rattle.v8m_core.specs.Step.{Done, went, stopped, unless, fetched, goes_in, seen, arrived, entered, handed, returned, return_stop, return_to, bxns, effect_of, pass, put, write_register, load_stop, store_stop, stored, special, apply, act, act_or, step_of}
-use Rattle.v8m_core.specs.Code.{Holds, HasCode, past, Comes, Follows, Does}
+use Rattle.v8m_core.specs.Step.{Done, went, stopped, unless, fetched, goes_in, seen, arrived, return_stop, return_to, bxns, effect_of, pass, write_register, load_stop, store_stop, special, apply, act, act_or, step_of}
+use Rattle.v8m_core.specs.Code.{Holds, HasCode, past, Comes, Does}
 
 -- decoding what was encoded
 decode-narrow : (i : Instr) → in_range_of i ≡ true → size_of i ≡ 2 → (is_narrow (code_of i).first ≡ true) × (decode_of (code_of i).first 0 ≡ Some (record { instr = i; size = 2 }))
@@ -35,23 +35,23 @@ does rom s i h =
     let pc = s.cpu.pc in
     let wide : Done = cond (is_in_rom (pc + 2)) (act_or rom (decode_of (fetched rom pc) (fetched rom (pc + 2))) s) (stopped stop.BadState s) in
     let here : step_of rom s ≡ cond (is_narrow (code_of i).first) (act_or rom (decode_of (code_of i).first 0) s) (cond (is_in_rom (pc + 2)) (act_or rom (decode_of (code_of i).first (fetched rom (pc + 2))) s) (stopped stop.BadState s)) =
-      ap (λ t. cond t (cond (is_narrow (fetched rom pc)) (act_or rom (decode_of (fetched rom pc) 0) s) (cond (is_in_rom (pc + 2)) (act_or rom (decode_of (fetched rom pc) (fetched rom (pc + 2))) s) (stopped stop.BadState s))) (stopped stop.BadState s)) h.place
-      ∙ ap (λ a. cond (is_narrow a) (act_or rom (decode_of a 0) s) (cond (is_in_rom (pc + 2)) (act_or rom (decode_of a (fetched rom (pc + 2))) s) (stopped stop.BadState s))) h.first in
+    ap (λ t. cond t (cond (is_narrow (fetched rom pc)) (act_or rom (decode_of (fetched rom pc) 0) s) (cond (is_in_rom (pc + 2)) (act_or rom (decode_of (fetched rom pc) (fetched rom (pc + 2))) s) (stopped stop.BadState s))) (stopped stop.BadState s)) h.place
+    ∙ ap (λ a. cond (is_narrow a) (act_or rom (decode_of a 0) s) (cond (is_in_rom (pc + 2)) (act_or rom (decode_of a (fetched rom (pc + 2))) s) (stopped stop.BadState s))) h.first in
     ⊎_elim
     (λ two.
-      let d = decode-narrow i h.range two in
-      here
-      ∙ ap (λ t. cond t (act_or rom (decode_of (code_of i).first 0) s) (cond (is_in_rom (pc + 2)) (act_or rom (decode_of (code_of i).first (fetched rom (pc + 2))) s) (stopped stop.BadState s))) d.0
-      ∙ ap (λ o. act_or rom o s) d.1 ∙ ap (λ n. act rom i n s) (sym two))
+    let d = decode-narrow i h.range two in
+    here
+    ∙ ap (λ t. cond t (act_or rom (decode_of (code_of i).first 0) s) (cond (is_in_rom (pc + 2)) (act_or rom (decode_of (code_of i).first (fetched rom (pc + 2))) s) (stopped stop.BadState s))) d.0
+    ∙ ap (λ o. act_or rom o s) d.1 ∙ ap (λ n. act rom i n s) (sym two))
     (λ four.
-      let ne : size_of i ≢ 2 = λ e. omega arith in
-      let d = decode-wide i h.range ne in
-      let second = ⊎_elim {C = (is_in_rom (pc + 2) ≡ true) × (fetched rom (pc + 2) ≡ (code_of i).second)} (λ two. absurd (ne two)) (λ x. x) h.second in
-      here
-      ∙ ap (λ t. cond t (act_or rom (decode_of (code_of i).first 0) s) (cond (is_in_rom (pc + 2)) (act_or rom (decode_of (code_of i).first (fetched rom (pc + 2))) s) (stopped stop.BadState s))) d.0
-      ∙ ap (λ t. cond t (act_or rom (decode_of (code_of i).first (fetched rom (pc + 2))) s) (stopped stop.BadState s)) second.0
-      ∙ ap (λ b. act_or rom (decode_of (code_of i).first b) s) second.1
-      ∙ ap (λ o. act_or rom o s) d.1)
+    let ne : size_of i ≢ 2 = λ e. omega arith in
+    let d = decode-wide i h.range ne in
+    let second = ⊎_elim {C = (is_in_rom (pc + 2) ≡ true) × (fetched rom (pc + 2) ≡ (code_of i).second)} (λ two. absurd (ne two)) (λ x. x) h.second in
+    here
+    ∙ ap (λ t. cond t (act_or rom (decode_of (code_of i).first 0) s) (cond (is_in_rom (pc + 2)) (act_or rom (decode_of (code_of i).first (fetched rom (pc + 2))) s) (stopped stop.BadState s))) d.0
+    ∙ ap (λ t. cond t (act_or rom (decode_of (code_of i).first (fetched rom (pc + 2))) s) (stopped stop.BadState s)) second.0
+    ∙ ap (λ b. act_or rom (decode_of (code_of i).first b) s) second.1
+    ∙ ap (λ o. act_or rom o s) d.1)
     (size_of_two_or_four i)
 
 pub comes_on : (rom : List ℕ) (m n : ℕ) (s t u : State) → Comes rom m s t → Comes rom n t u → Comes rom (m + n) s u

@@ -1,12 +1,12 @@
 -- What a step is, by the halfwords that are fetched.
-use Rattle.std.proofs.Common.{◌≡◌, ◌≢◌, ℕ, ◌+◌, Bool, true, false, cond, List, refl, sym, ap, ◌∙◌, arith, Option, Some, None}
-use Rattle.std.specs.Prelude.{option_map, eqb}
+use Rattle.std.proofs.Common.{◌≡◌, ◌≢◌, ℕ, true, false, List, refl, sym, ap, ◌∙◌, arith, Option, Some, None}
+use Rattle.std.specs.Prelude.{option_map}
 use Rattle.std.proofs.lemmas.Bool.Decides.{nat_tests}
 use Rattle.v8m_isa.specs.declared.instr.Instr.{Instr}
 use Rattle.v8m_isa.specs.Table.{Decoded, decode_of, is_narrow, is_of_two_bytes, pair_of}
 use Rattle.ns_types.specs.State.{State}
 use Rattle.ns_types.specs.Platform.{is_in_rom}
-use Rattle.v8m_core.specs.Step.{fetched, act, act_or, step_of, Done}
+use Rattle.v8m_core.specs.Step.{fetched, act, step_of}
 
 -- what was decoded, by the pair that the code has
 pub read_none : (o : Option Decoded) → None ≡ option_map pair_of o → o ≡ None

@@ -1,5 +1,5 @@
 -- Code in Secure ROM, and runs of it.
-use Rattle.std.specs.Prelude.{◌≡◌, ℕ, zero, suc, ◌+◌, ◌/◌, ◌%◌, ◌++◌, cond, ◌⊎◌, Bool, true, List, [], ◌∷◌, eqb}
+use Rattle.std.specs.Prelude.{◌≡◌, ℕ, zero, suc, ◌+◌, ◌/◌, ◌%◌, ◌++◌, cond, ◌⊎◌, true, List, [], ◌∷◌, eqb}
 use Rattle.v8m_isa.specs.declared.instr.Instr.{Instr}
 use Rattle.v8m_isa.specs.Table.{in_range_of, size_of, code_of}
 use Rattle.ns_types.specs.State.{State}

@@ -1,5 +1,5 @@
 -- One step of the machine: what is fetched, what an instruction does, and the gates between Secure and Non-secure state.
-use Rattle.std.specs.Prelude.{ℕ, suc, ◌+◌, ◌-◌, ◌*◌, ◌/◌, ◌%◌, Bool, true, false, cond, ◌&&◌, ◌||◌, not, eqb, ltb, leb, List, [], ◌∷◌, length, slice_index, Option, Some, None, bit_and}
+use Rattle.std.specs.Prelude.{ℕ, ◌+◌, ◌-◌, ◌*◌, ◌/◌, ◌%◌, Bool, cond, ◌&&◌, not, eqb, ltb, List, [], ◌∷◌, slice_index, Option, Some, None, bit_and}
 use Rattle.cm_base.specs.declared.stop.Stop.{Stop}
 use Rattle.cm_base.specs.declared.stop.Stop.TheVariants as stop
 use Rattle.v8m_isa.specs.declared.instr.Instr.{Instr}
@@ -8,14 +8,13 @@ use Rattle.v8m_isa.specs.Table.{Decoded, decode_of, is_narrow}
 use Rattle.ns_types.specs.declared.goes.Goes.{Goes}
 use Rattle.ns_types.specs.declared.goes.Goes.TheVariants as goes
 use Rattle.ns_types.specs.declared.state.Cpu.{Cpu}
-use Rattle.ns_types.specs.declared.state.Regs.{Regs}
 use Rattle.ns_types.specs.declared.state.Side.TheVariants.{Secure, NonSecure, Stopped}
 use Rattle.ns_types.specs.declared.turn.View.{View}
 use Rattle.ns_types.specs.declared.turn.Turn.{Turn}
-use Rattle.ns_types.specs.State.{get_of, set_of, Memory, State}
+use Rattle.ns_types.specs.State.{get_of, set_of, State}
 use Rattle.ns_types.specs.Platform.{row, in_row, lies_in, is_readable, is_writable, is_in_rom, aligned}
-use Rattle.ns_types.specs.Memory.{half_at, word_at, load, store}
-use Rattle.ns_types.specs.Boundary.{function_return, goes_of, acted, Acted}
+use Rattle.ns_types.specs.Memory.{half_at, load, store}
+use Rattle.ns_types.specs.Boundary.{function_return, goes_of, acted}
 use Rattle.v8m_core.specs.declared.stepped.Stepped.{Stepped}
 use Rattle.v8m_core.specs.declared.stepped.Stepped.TheVariants as what
 use Rattle.v8m_core.specs.declared.effect.Effect.{Effect}

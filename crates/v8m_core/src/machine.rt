@@ -78,11 +78,17 @@ fn reset_cpu(memory: &Memory) -> Cpu
     }
 }
 
+/// The least halfword that begins an instruction of two (DDI0553, T32 instruction set encoding).
+const FIRST_OF_TWO: u16 = 0xE800;
+
 /// The instruction that a halfword is by itself.
 fn narrow(first: u16) -> Option<Instr>
     ensures { MatchOption result (is_narrow first ≡ false)
         (λ i. (decode_of first 0 ≡ Some (record { instr = i; size = 2 })) × (in_range_of i ≡ true)) }
 {
+    if first >= FIRST_OF_TWO {
+        return None;
+    }
     match decode(first, 0) {
         Some((instr, size)) => { if size == 2 { Some(instr) } else { None } }
         None => None,

@@ -1,0 +1,15 @@
+//! The syntax tree of a C source: one variant for each alternative of the grammar, with its parts in
+//! order and its place. What the grammar repeats is a list, so that a tree is only as deep as its source
+//! nests. A tree holds no pointers in its value: two trees are equal where they say the same.
+#![tactic(auto)]
+
+pub mod expr;
+pub mod stmt;
+
+pub use expr::{
+    Abstract, Access, AssignOp, Attr, BinOp, Declarator, EnumSpec, Enumerator, Expr, Link, Member,
+    Name, One, Param, Params, Spec, SpecWord, Star, StepOp, StructSpec, Suffix, TypeName, UnOp,
+};
+pub use stmt::{
+    Block, Decl, External, First, Function, Init, Initial, Item, Label, Part, Stmt, Unit,
+};

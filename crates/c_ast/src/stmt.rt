@@ -1,0 +1,112 @@
+//! Declarations, statements and units.
+
+use crate::expr::{Attr, Declarator, Expr, Spec};
+use c_lex::token::Header;
+use cm_base::{List, Place};
+use sqlite_items::Boxed;
+
+/// A value that an object begins with.
+#[derive(Drop)]
+pub enum Initial {
+    Assign(Expr),
+    /// `{` initial `,` .. `}`
+    Braces(Place, List<Initial>),
+}
+
+/// A declarator with its attributes and its initialiser.
+#[derive(Drop)]
+pub struct Init {
+    pub declarator: Declarator,
+    pub attrs: List<Attr>,
+    pub value: Option<Initial>,
+}
+
+/// A declaration.
+#[derive(Drop)]
+pub struct Decl {
+    pub specs: List<Spec>,
+    pub inits: List<Init>,
+}
+
+/// A statement. The place is that of its first token.
+#[cycle(statements)]
+#[derive(Drop)]
+pub enum Stmt {
+    Block(Block),
+    Empty(Place),
+    Expr(Expr),
+    Return(Place, Option<Expr>),
+    Break(Place),
+    Continue(Place),
+    /// The test, what is done where it holds, and what stands after `else`.
+    If(Place, Expr, Boxed<Stmt>, Option<Boxed<Stmt>>),
+    While(Place, Expr, Boxed<Stmt>),
+    DoWhile(Place, Boxed<Stmt>, Expr),
+    /// The first part, the test, what is done between two turns, and the body.
+    For(Place, First, Option<Expr>, Option<Expr>, Boxed<Stmt>),
+    Switch(Place, Expr, List<Part>),
+}
+
+/// The first part of a `for`.
+#[derive(Drop)]
+pub enum First {
+    Decl(Decl),
+    Expr(Option<Expr>),
+}
+
+/// `{` declarations and statements `}`
+#[cycle(statements)]
+#[derive(Drop)]
+pub struct Block {
+    pub place: Place,
+    pub items: List<Item>,
+}
+
+/// A part of a block.
+#[cycle(statements)]
+#[derive(Drop)]
+pub enum Item {
+    Decl(Decl),
+    Stmt(Stmt),
+}
+
+/// A part of a `switch`.
+#[cycle(statements)]
+#[derive(Drop)]
+pub enum Part {
+    Label(Label),
+    Decl(Decl),
+    Stmt(Stmt),
+}
+
+/// A label of a `switch`.
+#[derive(Drop)]
+pub enum Label {
+    /// `case` value `:`
+    Case(Place, Expr),
+    /// `default` `:`
+    Default(Place),
+}
+
+/// A function with its body.
+#[derive(Drop)]
+pub struct Function {
+    pub specs: List<Spec>,
+    pub declarator: Declarator,
+    pub attrs: List<Attr>,
+    pub body: Block,
+}
+
+/// A part of a unit.
+#[derive(Drop)]
+pub enum External {
+    Include(Place, Header),
+    Decl(Decl),
+    Function(Function),
+}
+
+/// A source.
+#[derive(Drop)]
+pub struct Unit {
+    pub parts: List<External>,
+}

@@ -1,0 +1,6 @@
+pub mod Shrinks
+pub mod UnitShrinks
+pub mod Soundness
+pub mod Sound
+pub mod UnitSound
+pub mod Steps

@@ -1,0 +1,5 @@
+pub mod Tokens
+pub mod Grammar
+pub mod Units
+pub mod Nesting
+pub mod Reading

@@ -1,0 +1,6 @@
+//! The grammar over tokens, what the next tokens begin, and reading from left to right.
+#![tactic(auto)]
+
+pub mod either;
+pub mod laws;
+pub mod tokens;

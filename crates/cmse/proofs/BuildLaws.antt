@@ -1,0 +1,117 @@
+-- From what was read, made and written to how the command ends.
+use Rattle.std.proofs.Common.{◌≡◌, ◌≢◌, ℕ, ◌+◌, ◌<◌, ◌≤◌, ◌⊎◌, Bool, true, List, [], ◌∷◌, ◌++◌, length, take, codes, refl, sym, ap, ◌∙◌, subst, ⊎_elim, inl, inr, arith, Option, Some, None, IsSome, is_some, Ok, option_map, length-append}
+use Rattle.std.specs.Fmt.{decimal}
+use Rattle.std.proofs.lemmas.Fmt.{length-decimal-le}
+use Rattle.std.proofs.lemmas.List.{take_all, length-take}
+use Rattle.cm_base.specs.Outside.{Files, held, IsMissing, OthersStay}
+use Rattle.import_lib.specs.Library.{library_of}
+use Rattle.cmse_build.specs.Constant.{IsConstant, IsEnd}
+use Rattle.cmse_build.specs.Reading.{rom_of_image}
+use Rattle.cmse_build.proofs.Ready.{short_name}
+use Rattle.ns_turns.proofs.OnlyLaws.{only_from_refines}
+use Rattle.constant_entry.specs.Code.{rom_bytes}
+use Rattle.constant_entry.specs.Meaning.{enters_first, constant_run}
+use Rattle.constant_entry.proofs.Views.{shows_constant}
+use Rattle.constant_entry.proofs.Whole.{refines}
+use Rattle.constant_entry.proofs.Clean.{clean_run}
+use Rattle.constant_entry.proofs.Placed.{gives_constant}
+use Rattle.cmse.specs.declared.status.Status.{Status}
+use Rattle.cmse.specs.declared.status.Status.TheVariants.{Done, Refused, BadWords, CannotRead, CannotWrite, NoMemory, BadInput}
+use Rattle.cmse.specs.Files.{Delivers, Holds, OthersThanStay, IsReadFault}
+use Rattle.cmse.specs.Build.{one_veneer, Builds, IsOther, refusal_of, IsRefusalOf, Delivered, Listed, BuildEnds}
+
+-- what is built from a text of the form
+pub builds : (text name lib img : List ℕ) (n : ℕ) → IsConstant text name n → lib ≡ library_of (one_veneer name) → rom_of_image img ≡ Ok (rom_bytes n) → Builds text lib img
+builds text name lib img n form lists reads =
+    let small : n < 4294967296 = let le = form.is_int in omega arith in
+    let holds = gives_constant n small in
+    let does = refines (rom_bytes n) n holds in
+    record {
+      name = name;
+      n = n;
+      form = form;
+      lists = lists;
+      rom = rom_bytes n;
+      reads = reads;
+      shows = shows_constant (rom_bytes n) n holds;
+      does = does;
+      only = only_from_refines (rom_bytes n) enters_first (constant_run n) does (clean_run n);
+    }
+
+end_short : (rest : List ℕ) → IsEnd rest → length rest ≤ 4
+end_short rest e = ⊎_elim (λ a. let l : length rest ≡ 3 = ap length a in omega arith) (λ b. let l : length rest ≡ 4 = ap length b in omega arith) e
+
+-- a text of the form is short
+form_short : (text name : List ℕ) (n : ℕ) → IsConstant text name n → length text ≤ 1000
+form_short text name n f =
+    let a : List ℕ = codes "int __attribute__((cmse_nonsecure_entry)) " in
+    let b : List ℕ = codes "(void) { return " in
+    let total : length text ≡ length a + (length name + (length b + (length (decimal n) + length f.rest))) = ap length f.spelled ∙ length-append a _ ∙ ap (λ k. length a + k) (length-append name _ ∙ ap (λ k. length name + k) (length-append b _ ∙ ap (λ k. length b + k) (length-append (decimal n) f.rest))) in
+    let la : length a ≡ 42 = refl in
+    let lb : length b ≡ 16 = refl in
+    let ln = short_name name f.is_name in
+    let ld = length-decimal-le 10 n (omega arith) (let le = f.is_int in omega arith) (let le = f.is_int in omega arith) in
+    let lr = end_short f.rest f.is_end in
+    omega arith
+
+-- what was read of a short file is all of it
+read_whole : (o : Option (List ℕ)) (text : List ℕ) → option_map (take 1048577) o ≡ Some text → length text ≤ 1000 → o ≡ Some text
+read_whole None text e short = absurd (cc)
+read_whole (Some all) text e short =
+    let same : take 1048577 all ≡ text = cc in
+    let n : length (take 1048577 all) ≤ 1000 = subst (λ l. length l ≤ 1000) (sym same) short in
+    let few : length all ≤ 1048577 = omega (arith, length-take 1048577 all) in
+    ap Some (sym (take_all 1048577 all few) ∙ same)
+
+pub read_form : (o : Option (List ℕ)) (text lib img : List ℕ) → option_map (take 1048577) o ≡ Some text → Builds text lib img → o ≡ Some text
+read_form o text lib img e b = read_whole o text e (form_short text b.name b.n b.form)
+
+-- a file of which something else than the form was read isn't of the form
+pub read_other : (o : Option (List ℕ)) (text : List ℕ) → option_map (take 1048577) o ≡ Some text → IsOther text → (all : List ℕ) × (o ≡ Some all) × IsOther all
+read_other None text e other = absurd (cc)
+read_other (Some all) text e other = (
+  all,
+  refl,
+  λ name n form.
+      let short = form_short all name n form in
+      let same : take 1048577 all ≡ text = cc in
+      let is : all ≡ text = sym (take_all 1048577 all (omega arith)) ∙ same in
+      other name n (subst (λ l. IsConstant l name n) is form),
+)
+
+told : (old new : Option Files) → is_some new ≡ is_some old → IsSome old → IsSome new
+told (Some x) (Some y) e h = tt
+told (Some x) None e h = absurd (cc)
+told None new e h = absurd h
+
+-- after the writes
+pub deliver_ends : (old new : Option Files) (reads writes : Type 0) (library lib image img source text : List ℕ) (status : Status) → is_some new ≡ is_some old → Delivers old new writes library lib image img status → Builds text lib img → (IsSome old → held old source ≡ Some text) → BuildEnds old new reads writes image library source status
+deliver_ends old new reads writes library lib image img source text Done e d b h = (λ t. (text, lib, img, h t, d.0 (told old new e t), d.1 (told old new e t), b), d.2)
+deliver_ends old new reads writes library lib image img source text (Refused refusal) e d b h = absurd d
+deliver_ends old new reads writes library lib image img source text (BadWords k) e d b h = absurd d
+deliver_ends old new reads writes library lib image img source text (CannotRead file) e d b h = absurd d
+deliver_ends old new reads writes library lib image img source text (CannotWrite file) e d b h =
+    (d.0, ⊎_elim (λ x. inl x) (λ x. inr (x.0, (λ t. (text, lib, img, h t, x.1 (told old new e t), b)), x.2)) d.1)
+deliver_ends old new reads writes library lib image img source text NoMemory e d b h =
+    (d.0, ⊎_elim (λ x. inl x) (λ x. inr (λ t. (text, lib, img, h t, x (told old new e t), b))) d.1)
+deliver_ends old new reads writes library lib image img source text (BadInput file at) e d b h = absurd d
+
+-- after a read that was refused
+pub read_ends : (old new : Option Files) (reads writes : Type 0) (image library source : List ℕ) (status : Status) → new ≡ old → IsReadFault status source (reads ⊎ IsMissing old source) → BuildEnds old new reads writes image library source status
+read_ends old new reads writes image library source Done e d = absurd d
+read_ends old new reads writes image library source (Refused refusal) e d = absurd d
+read_ends old new reads writes image library source (BadWords k) e d = absurd d
+read_ends old new reads writes image library source (CannotRead file) e d = (d.0, d.1, e)
+read_ends old new reads writes image library source (CannotWrite file) e d = absurd d
+read_ends old new reads writes image library source NoMemory e d = ((λ other ne. ap (λ f. held f other) e), inl (ap (λ f. held f library) e))
+read_ends old new reads writes image library source (BadInput file at) e d = absurd d
+
+-- after the refusal of a source
+pub refused_ends : (old new : Option Files) (reads writes : Type 0) (image library source : List ℕ) (status : Status) → new ≡ old → IsRefusalOf source status → (IsSome old → (text : List ℕ) × (held old source ≡ Some text) × IsOther text) → BuildEnds old new reads writes image library source status
+refused_ends old new reads writes image library source Done e d h = absurd d
+refused_ends old new reads writes image library source (Refused refusal) e d h = (d, e, h)
+refused_ends old new reads writes image library source (BadWords k) e d h = absurd d
+refused_ends old new reads writes image library source (CannotRead file) e d h = absurd d
+refused_ends old new reads writes image library source (CannotWrite file) e d h = absurd d
+refused_ends old new reads writes image library source NoMemory e d h = ((λ other ne. ap (λ f. held f other) e), inl (ap (λ f. held f library) e))
+refused_ends old new reads writes image library source (BadInput file at) e d h = absurd d

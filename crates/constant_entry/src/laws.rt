@@ -1,0 +1,18 @@
+//! What the machine does with these programs, for every start, list of turns and number of steps.
+
+ghost use Rattle.std.specs.Prelude.{ℕ, ◌<◌, ◌^◌};
+ghost use Rattle.ns_turns.specs.Refines.{Refines, Only};
+ghost use Rattle.constant_entry.specs.Code.{rom_bytes};
+ghost use Rattle.constant_entry.specs.Shows.{ShowsConstant};
+ghost use Rattle.constant_entry.specs.Meaning.{enters_first, constant_run};
+
+/// A first call shows two views, the start's and the result's.
+pub fn first_call()
+    ensures { (n : ℕ) → n < 2 ^ 32 → ShowsConstant (rom_bytes n) n }
+{}
+
+/// The machine does what the program does, and nothing else.
+pub fn refinement()
+    ensures does { (n : ℕ) → n < 2 ^ 32 → Refines (rom_bytes n) enters_first (constant_run n) }
+    ensures only { (n : ℕ) → n < 2 ^ 32 → Only (rom_bytes n) enters_first (constant_run n) }
+{}
