@@ -4,6 +4,8 @@
 mod build;
 mod files;
 mod status;
+#[cfg(test)]
+mod tests;
 mod words;
 
 use build::cmse_main;
