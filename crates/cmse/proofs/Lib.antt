@@ -1,1 +1,3 @@
 pub mod BuildLaws
+pub mod NumberLaws
+pub mod RunLaws

@@ -1,5 +1,5 @@
 -- What the command `build` makes of a source, and how it ends.
-use Rattle.std.specs.Prelude.{◌≡◌, ◌≢◌, ℕ, ◌⊎◌, List, [], ◌∷◌, Option, Some, IsSome, Result, Ok, Err}
+use Rattle.std.specs.Prelude.{◌≡◌, ◌≢◌, ℕ, ◌⊎◌, List, [], ◌∷◌, Option, Some, IsSome, Result, Ok}
 use Rattle.cm_base.specs.Outside.{Files, held, IsMissing, OthersStay}
 use Rattle.cm_base.specs.declared.place.Refusal.{Refusal}
 use Rattle.cm_base.specs.declared.place.Refusal.TheVariants.{At}
@@ -11,7 +11,6 @@ use Rattle.ns_turns.specs.Refines.{Refines, Only}
 use Rattle.constant_entry.specs.Shows.{ShowsConstant, first_veneer}
 use Rattle.constant_entry.specs.Meaning.{enters_first, constant_run}
 use Rattle.cmse.specs.Files.{OthersThanStay}
-use Rattle.cmse.specs.Words.{Asked, build}
 use Rattle.cmse.specs.declared.status.Status.{Status}
 use Rattle.cmse.specs.declared.status.Status.TheVariants.{Done, Refused, BadWords, CannotRead, CannotWrite, NoMemory, BadInput}
 
@@ -64,11 +63,6 @@ BuildEnds old new reads writes image library source (CannotWrite file) =
 BuildEnds old new reads writes image library source NoMemory =
     OthersStay old new library × ((held new library ≡ held old library) ⊎ (IsSome old → Listed old new source library))
 BuildEnds old new reads writes image library source (BadInput file at) = ⊥
-
--- How the program ends by what its words ask for: bad words change no file.
-abbrev pub Ends : Result Asked ℕ → Option Files → Option Files → Type 0 → Type 0 → Status → Type 0
-Ends (Ok (build image library source)) old new reads writes status = BuildEnds old new reads writes image library source status
-Ends (Err k) old new reads writes status = (status ≡ BadWords k) × (new ≡ old)
 
 -- a refusal of this source, or want of memory
 abbrev pub IsRefusalOf : List ℕ → Status → Type 0

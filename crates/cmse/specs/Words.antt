@@ -1,10 +1,10 @@
 -- What a list of words asks for.
-use Rattle.std.specs.Prelude.{◌≡◌, ◌≢◌, ℕ, ◌+◌, ◌-◌, ◌==◌, Bool, true, false, not, List, [], ◌∷◌, map, codes, slice_get, String, Option, Some, None, Result, Ok, Err, if◌then◌else◌}
+use Rattle.std.specs.Prelude.{◌≡◌, ◌≢◌, ℕ, ◌+◌, ◌-◌, ◌*◌, ◌==◌, nat_le, Bool, true, false, not, ◌&&◌, List, [], ◌∷◌, map, codes, length, slice_get, option_and_then, String, Option, Some, None, Result, Ok, Err, if◌then◌else◌}
 use Rattle.std.specs.String.{string_bytes}
 use Rattle.std.specs.declared.alloc.Global.{Global}
 use Rattle.std.specs.Str.{bytes_eq}
 use Rattle.cmse.specs.declared.words.Command.{Command}
-use Rattle.cmse.specs.declared.words.Command.TheVariants.{Build}
+use Rattle.cmse.specs.declared.words.Command.TheVariants.{Build, Run}
 
 abbrev pub Words : Type 0
 Words = List (List ℕ)
@@ -12,6 +12,7 @@ Words = List (List ℕ)
 -- a command and the names of its files
 pub data Asked : Type 0 where
   build : List ℕ → List ℕ → List ℕ → Asked
+  run : ℕ → List ℕ → List ℕ → Asked
 
 -- what a function found, seen by view, is this answer
 abbrev pub Gives : {X Y : Type 0} → (X → Y) → Result X ℕ → Result Y ℕ → Type 0
@@ -72,12 +73,51 @@ options_of words =
     then (value_at words 2 (codes "-l") >>= λ library. differing_at words 4 (codes "-o") library >>= λ image. Ok (image, library))
     else (value_at words 2 (codes "-o") >>= λ image. differing_at words 4 (codes "-l") image >>= λ library. Ok (image, library))
 
+unfoldable pub build_asked : Words → Result Asked ℕ
+build_asked words =
+    options_of words >>= λ names. name_at words 6 >>= λ source. end_at words 7 >>= λ _. Ok (build names.0 names.1 source)
+
+-- the value of a decimal digit
+unfoldable pub digit : ℕ → Option ℕ
+digit c = if nat_le 48 c && nat_le c 57 then Some (c - 48) else None
+
+-- the number that digits write behind those of n
+abbrev pub number_after : ℕ → List ℕ → Option ℕ
+number_after n [] = Some n
+number_after n (c ∷ cs) = option_and_then (λ d. number_after (10 * n + d) cs) (digit c)
+
+abbrev pub if_fits : ℕ → Option ℕ
+if_fits n = if nat_le n 4294967295 then Some n else None
+
+-- the number that one to ten digits write, where 32 bits hold it
+unfoldable pub number : List ℕ → Option ℕ
+number word = if nat_le 1 (length word) && nat_le (length word) 10 then option_and_then if_fits (number_after 0 word) else None
+
+abbrev pub or_bad : Option ℕ → ℕ → Result ℕ ℕ
+or_bad None k = Err k
+or_bad (Some n) k = Ok n
+
+abbrev pub number_of : Option (List ℕ) → ℕ → Result ℕ ℕ
+number_of None k = Err k
+number_of (Some w) k = or_bad (number w) k
+
+-- the number at place k, or k where no number is there
+abbrev pub number_at : Words → ℕ → Result ℕ ℕ
+number_at words k = number_of (word words k) k
+
+-- the number of steps of `run`
+abbrev pub steps_of : Words → Result ℕ ℕ
+steps_of words = if is_word words 2 (codes "-n") then number_at words 3 else Err 2
+
+unfoldable pub run_asked : Words → Result Asked ℕ
+run_asked words =
+    steps_of words >>= λ steps. name_at words 4 >>= λ image. name_at words 5 >>= λ script. end_at words 6 >>= λ _. Ok (run steps image script)
+
 -- What the words ask for, or the number of the first word that no command allows there.
 unfoldable pub asked_of : Words → Result Asked ℕ
 asked_of words =
-    if is_word words 1 (codes "build")
-    then (options_of words >>= λ names. name_at words 6 >>= λ source. end_at words 7 >>= λ _. Ok (build names.0 names.1 source))
-    else Err 1
+    if is_word words 1 (codes "build") then build_asked words
+    else (if is_word words 1 (codes "run") then run_asked words else Err 1)
 
 -- words of the program as their bytes
 abbrev pub texts : List (String Global) → Words
@@ -86,7 +126,9 @@ texts words = map string_bytes words
 -- a command of the program as what it asks for
 abbrev pub seen : Command → Asked
 seen (Build image library source) = build image.now library.now source.now
+seen (Run steps image script) = run steps image.now script.now
 
 -- the files that a command writes differ
 abbrev pub FilesDiffer : Command → Type 0
 FilesDiffer (Build image library source) = image.now ≢ library.now
+FilesDiffer (Run steps image script) = Unit {0}

@@ -6,13 +6,11 @@ ghost use Rattle.import_lib.specs.Library.{library_of};
 ghost use Rattle.cmse_build.specs.Constant.{is_entry_name};
 ghost use Rattle.cmse_build.specs.Reading.{rom_of_image};
 ghost use Rattle.constant_entry.specs.Code.{rom_bytes};
-ghost use Rattle.cmse.specs.Words.{texts, asked_of};
-ghost use Rattle.cmse.specs.Build.{one_veneer, Builds, IsOther, IsRefusalOf, BuildEnds, Ends};
+ghost use Rattle.cmse.specs.Build.{one_veneer, Builds, IsOther, IsRefusalOf, BuildEnds};
 
 use crate::files::{deliver, read_source};
 use crate::status::Status;
-use crate::words::{Command, read_words};
-use cm_base::{Bytes, List, NoMemory, Refusal, Sink, Store, Text};
+use cm_base::{Bytes, List, NoMemory, Refusal, Store, Text};
 use cmse_build::{Gate, read_constant, write_image};
 use constant_entry::{ENTRY, START, VENEER, gateways, used};
 use import_lib::write_implib;
@@ -84,8 +82,8 @@ fn refused(alloc: Global, file: &str) -> Status
     }
 }
 
-// From a source to both files.
-fn build<S: Store>(alloc: Global, store: &mut S, image: &str, library: &str, source: &str) -> Status
+/// From a source to both files.
+pub fn build<S: Store>(alloc: Global, store: &mut S, image: &str, library: &str, source: &str) -> Status
     requires { image.now ≢ library.now }
     ensures ends { BuildEnds (S.files store.old) (S.files store.new)
         (Rose (S.read_faults store.old) (S.read_faults store.new))
@@ -110,37 +108,5 @@ fn build<S: Store>(alloc: Global, store: &mut S, image: &str, library: &str, sou
         ),
         Ok(None) => refused(alloc, source),
         Err(NoMemory) => Status::NoMemory,
-    }
-}
-
-/// Runs the command that the words after the program's name ask for, over these files and this output.
-///
-/// Where `build` answers `Done` over a store that tells its files, the source is that of one entry that gives a
-/// number, and the Secure ROM that the written image reads as does what the program does, for every start, every list
-/// of Non-secure turns and every number of steps.
-pub fn cmse_main<S: Store, K: Sink>(
-    alloc: Global,
-    words: &[String],
-    store: &mut S,
-    out: &mut K,
-) -> Status
-    ensures ends { Ends (asked_of (texts words.now)) (S.files store.old) (S.files store.new)
-        (Rose (S.read_faults store.old) (S.read_faults store.new))
-        (Rose (S.write_faults store.old) (S.write_faults store.new)) result }
-    ensures telling_stays { is_some (S.files store.new) ≡ is_some (S.files store.old) }
-    ensures output_stays { K.given out.new ≡ K.given out.old }
-    ensures reads_only_rise { S.read_faults store.old ≤ S.read_faults store.new }
-    ensures writes_only_rise { S.write_faults store.old ≤ S.write_faults store.new }
-{
-    let _ = out;
-    match read_words(words) {
-        Err(k) => Status::BadWords(k),
-        Ok(
-            Command::Build {
-                image,
-                library,
-                source,
-            },
-        ) => build(alloc, store, image, library, source),
     }
 }

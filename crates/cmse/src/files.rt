@@ -10,6 +10,33 @@ use std::alloc::Global;
 /// The greatest size of a source, and one byte more.
 const MOST: u64 = 1_048_577;
 
+/// The bytes of a file, or the first `most` of them.
+pub fn read_file<S: Store>(
+    alloc: Global,
+    store: &mut S,
+    name: &str,
+    most: u64,
+) -> Result<Bytes, Status>
+    requires { most ≤ 16777217 }
+    ensures value { IfOk result (λ bytes. IsSome (S.files store.old)
+        → option_map (take most) (held (S.files store.old) name.now) ≡ Some bytes) }
+    ensures within { IfOk result (λ bytes. length bytes ≤ most) }
+    ensures why { IfErr result (λ status. IsReadFault status name.now
+        (Rose (S.read_faults store.old) (S.read_faults store.new) ⊎ IsMissing (S.files store.old) name.now)) }
+    ensures files_stay { S.files store.new ≡ S.files store.old }
+    ensures reads_only_rise { S.read_faults store.old ≤ S.read_faults store.new }
+    ensures writes_stay { S.write_faults store.new ≡ S.write_faults store.old }
+{
+    match store.read(alloc, name, most) {
+        Ok(bytes) => Ok(bytes),
+        Err(StoreFault::NoMemory) => Err(Status::NoMemory),
+        Err(StoreFault::Failed) => match Text::from_slice(alloc, name.as_bytes()) {
+            Ok(name) => Err(Status::CannotRead(name)),
+            Err(_) => Err(Status::NoMemory),
+        },
+    }
+}
+
 /// The bytes of a source, or one byte more than it may have.
 pub fn read_source<S: Store>(alloc: Global, store: &mut S, name: &str) -> Result<Bytes, Status>
     ensures value { IfOk result (λ text. IsSome (S.files store.old)
@@ -21,14 +48,7 @@ pub fn read_source<S: Store>(alloc: Global, store: &mut S, name: &str) -> Result
     ensures reads_only_rise { S.read_faults store.old ≤ S.read_faults store.new }
     ensures writes_stay { S.write_faults store.new ≡ S.write_faults store.old }
 {
-    match store.read(alloc, name, MOST) {
-        Ok(text) => Ok(text),
-        Err(StoreFault::NoMemory) => Err(Status::NoMemory),
-        Err(StoreFault::Failed) => match Text::from_slice(alloc, name.as_bytes()) {
-            Ok(name) => Err(Status::CannotRead(name)),
-            Err(_) => Err(Status::NoMemory),
-        },
-    }
+    read_file(alloc, store, name, MOST)
 }
 
 /// Writes the library and then the image.

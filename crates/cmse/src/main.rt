@@ -2,13 +2,15 @@
 #![tactic(auto)]
 
 mod build;
+mod command;
 mod files;
+mod run;
 mod status;
 #[cfg(test)]
 mod tests;
 mod words;
 
-use build::cmse_main;
+use command::cmse_main;
 use cm_base::{FileStore, OutSink};
 use status::{Status, status_text};
 use std::alloc::{AllocError, Global};
@@ -26,7 +28,7 @@ fn words_of(rt: &HostRuntime) -> io::Result<Vec<String>> {
 }
 
 /// Runs the program over the files and the output of the system.
-fn run(rt: &HostRuntime) -> Status {
+fn status_of(rt: &HostRuntime) -> Status {
     match words_of(rt) {
         Ok(words) => {
             let mut store = FileStore::new(rt.alloc(), rt);
@@ -40,7 +42,7 @@ fn run(rt: &HostRuntime) -> Status {
 }
 
 fn main(rt: HostRuntime) -> ExitCode {
-    let status = run(&rt);
+    let status = status_of(&rt);
     if let Ok(line) = status_text(rt.alloc(), &status) {
         let _ = rt.stderr().write_all(line.as_slice());
     }

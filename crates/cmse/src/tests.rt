@@ -3,7 +3,7 @@
 
 ghost use Rattle.std.specs.Prelude.{◌≡◌, IfOk, vec_len};
 
-use crate::build::cmse_main;
+use crate::command::cmse_main;
 use crate::status::status_text;
 use cm_base::{Bytes, List, MemSink, MemStore, NoMemory, Text};
 use cmse_build::load_image;

@@ -1,7 +1,7 @@
 //! The command line.
-ghost use Rattle.std.specs.Prelude.{◌≡◌, ◌≢◌, ◌<◌, IfOk};
+ghost use Rattle.std.specs.Prelude.{◌≡◌, ◌≢◌, ◌<◌, IfOk, IfSome};
 ghost use Rattle.std.specs.Option.{option_copied};
-ghost use Rattle.cmse.specs.Words.{texts, word, is_name, is_word, name_at, value_at, differing_at, end_at, options_of, asked_of, FilesDiffer, seen, Gives};
+ghost use Rattle.cmse.specs.Words.{texts, word, is_name, is_word, name_at, value_at, differing_at, end_at, options_of, digit, number, number_at, steps_of, build_asked, run_asked, asked_of, FilesDiffer, seen, Gives};
 
 /// What a command line asks for, with the names of its files.
 #[derive(Clone, Copy, Debug)]
@@ -11,6 +11,12 @@ pub enum Command<'a> {
         image: &'a str,
         library: &'a str,
         source: &'a str,
+    },
+    /// Play an image against a script for at most some steps.
+    Run {
+        steps: u32,
+        image: &'a str,
+        script: &'a str,
     },
 }
 
@@ -109,16 +115,66 @@ fn options_of(words: &[String]) -> Result<(&str, &str), u32>
     }
 }
 
-/// What the words after the program's name ask for, or the number of the first bad one, counted from 1: the first
-/// word that no command allows there, or the number after the last word where words are missing.
-#[tactic(auto, unfolding(crate::specs::Words::asked_of))]
-pub fn read_words(words: &[String]) -> Result<Command<'_>, u32>
-    ensures value { Gives seen result (asked_of (texts words.now)) }
+/// The value of a decimal digit.
+#[tactic(auto, unfolding(crate::specs::Words::digit))]
+fn digit(c: u8) -> Option<u8>
+    ensures value { result ≡ digit c }
+    ensures small { IfSome result (λ d. d < 10) }
+{
+    match c {
+        b'0'..=b'9' => Some(c - b'0'),
+        _ => None,
+    }
+}
+
+/// The number that one to ten decimal digits write, where 32 bits hold it.
+#[tactic(auto, using(crate::proofs::NumberLaws::numbers), unfolding(crate::specs::Words::number))]
+fn number(word: &[u8]) -> Option<u32>
+    ensures { result ≡ number word.now }
+{
+    if word.is_empty() || word.len() > 10 {
+        return None;
+    }
+    let mut n: u64 = 0;
+    for c in word {
+        n = 10 * n + u64::from(digit(*c)?);
+    }
+    if n > 4_294_967_295 {
+        return None;
+    }
+    Some(n as u32)
+}
+
+/// The number at place k, or k where no number is there.
+fn number_at(words: &[String], k: u32) -> Result<u32, u32>
+    requires { 0 < k }
+    ensures { Gives (λ n. n) result (number_at (texts words.now) k) }
+{
+    let Some(word) = word(words, k) else {
+        return Err(k);
+    };
+    match number(word.as_bytes()) {
+        Some(n) => Ok(n),
+        None => Err(k),
+    }
+}
+
+/// The number of steps, the value of the option `-n` of `run`.
+fn steps_of(words: &[String]) -> Result<u32, u32>
+    ensures { Gives (λ n. n) result (steps_of (texts words.now)) }
+{
+    if is_word(words, 2, "-n") {
+        number_at(words, 3)
+    } else {
+        Err(2)
+    }
+}
+
+#[tactic(auto, unfolding(crate::specs::Words::build_asked))]
+fn build_asked(words: &[String]) -> Result<Command<'_>, u32>
+    ensures value { Gives seen result (build_asked (texts words.now)) }
     ensures differ { IfOk result FilesDiffer }
 {
-    if !is_word(words, 1, "build") {
-        return Err(1);
-    }
     let (image, library) = options_of(words)?;
     let source = name_at(words, 6)?;
     end_at(words, 7)?;
@@ -127,4 +183,36 @@ pub fn read_words(words: &[String]) -> Result<Command<'_>, u32>
         library,
         source,
     })
+}
+
+#[tactic(auto, unfolding(crate::specs::Words::run_asked))]
+fn run_asked(words: &[String]) -> Result<Command<'_>, u32>
+    ensures value { Gives seen result (run_asked (texts words.now)) }
+    ensures differ { IfOk result FilesDiffer }
+{
+    let steps = steps_of(words)?;
+    let image = name_at(words, 4)?;
+    let script = name_at(words, 5)?;
+    end_at(words, 6)?;
+    Ok(Command::Run {
+        steps,
+        image,
+        script,
+    })
+}
+
+/// What the words after the program's name ask for, or the number of the first bad one, counted from 1: the first
+/// word that no command allows there, or the number after the last word where words are missing.
+#[tactic(auto, unfolding(crate::specs::Words::asked_of))]
+pub fn read_words(words: &[String]) -> Result<Command<'_>, u32>
+    ensures value { Gives seen result (asked_of (texts words.now)) }
+    ensures differ { IfOk result FilesDiffer }
+{
+    if is_word(words, 1, "build") {
+        build_asked(words)
+    } else if is_word(words, 1, "run") {
+        run_asked(words)
+    } else {
+        Err(1)
+    }
 }

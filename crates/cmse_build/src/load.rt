@@ -279,7 +279,8 @@ fn zeros(alloc: Global, n: usize) -> Result<Vec<u8>, NoMemory>
 #[tactic(auto, unfolding(crate::specs::Reading::rom_of))]
 fn rom_of(alloc: Global, bytes: &[u8], segments: &[Segment]) -> Result<Bytes, NoMemory>
     requires { All (Fits (length bytes.now)) segments.now }
-    ensures { IfOk result (λ rom. rom ≡ rom_of bytes.now segments.now) }
+    ensures value { IfOk result (λ rom. rom ≡ rom_of bytes.now segments.now) }
+    ensures whole { IfOk result (λ rom. length rom ≡ 4194304) }
 {
     let mut rom = zeros(alloc, rom_size())?;
     for s in segments {
@@ -301,7 +302,8 @@ fn is_entry(entry: u32, reset: u32) -> bool
 #[tactic(auto, unfolding(crate::specs::Reading::rom_of_image))]
 pub fn load_image(alloc: Global, bytes: &[u8]) -> Result<Image, ImageFault>
     requires { length bytes.now < 2 ^ 32 }
-    ensures { GivesOrNoMemory (λ image. image.rom) result (rom_of_image bytes.now) }
+    ensures value { GivesOrNoMemory (λ image. image.rom) result (rom_of_image bytes.now) }
+    ensures whole { IfOk result (λ image. length image.rom ≡ 4194304) }
 {
     test_identification(bytes).map_err(ImageFault::BadImage)?;
     test_header(bytes).map_err(ImageFault::BadImage)?;
