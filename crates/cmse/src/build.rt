@@ -83,7 +83,13 @@ fn refused(alloc: Global, file: &str) -> Status
 }
 
 /// From a source to both files.
-pub fn build<S: Store>(alloc: Global, store: &mut S, image: &str, library: &str, source: &str) -> Status
+pub fn build<S: Store>(
+    alloc: Global,
+    store: &mut S,
+    image: &str,
+    library: &str,
+    source: &str,
+) -> Status
     requires { image.now ≢ library.now }
     ensures ends { BuildEnds (S.files store.old) (S.files store.new)
         (Rose (S.read_faults store.old) (S.read_faults store.new))

@@ -10,8 +10,8 @@ mod status;
 mod tests;
 mod words;
 
-use command::cmse_main;
 use cm_base::{FileStore, OutSink};
+use command::cmse_main;
 use status::{Status, status_text};
 use std::alloc::{AllocError, Global};
 use std::env;

@@ -149,7 +149,12 @@ pub fn run<S: Store, K: Sink>(
         Ok(bytes) => bytes,
         Err(status) => return status,
     };
-    match play(alloc, image_bytes.as_slice(), script_bytes.as_slice(), steps) {
+    match play(
+        alloc,
+        image_bytes.as_slice(),
+        script_bytes.as_slice(),
+        steps,
+    ) {
         Ok(text) => put(alloc, out, text.as_slice()),
         Err(Unplayed::Image(at)) => unfit(alloc, image, at),
         Err(Unplayed::Script(at)) => unfit(alloc, script, at),

@@ -1,11 +1,11 @@
-//! The command `build` over stores in memory, and the machine on what it builds. The expected values are worked out by
-//! hand from the platform's description.
+//! The commands over stores and sinks in memory, and the machine on what `build` builds. The expected values are worked
+//! out by hand from the platform's description.
 
 ghost use Rattle.std.specs.Prelude.{◌≡◌, IfOk, vec_len};
 
 use crate::command::cmse_main;
 use crate::status::status_text;
-use cm_base::{Bytes, List, MemSink, MemStore, NoMemory, Text};
+use cm_base::{Bytes, List, MemSink, MemStore, NoMemory, Store, Text};
 use cmse_build::load_image;
 use ns_turns::play_turn;
 use ns_types::{Side, Start, Turn, View};
@@ -53,7 +53,7 @@ fn ends_with_its_line(rt: HostRuntime) -> Result<(), Fail> {
     let swapped = ["build", "-l", "a.lib", "-o", "a.img", "a.c"];
     let missing = ["build", "-o", "a.img", "-l", "a.lib", "b.c"];
     // the words, the numbers of the calls of the store that fail, and the line
-    let table: [(&[&str], &[u32], &[u8]); 12] = [
+    let table: [(&[&str], &[u32], &[u8]); 20] = [
         (&build, &[], b""),
         (&swapped, &[], b""),
         (&missing, &[], b"cannot read b.c\n"),
@@ -63,6 +63,14 @@ fn ends_with_its_line(rt: HostRuntime) -> Result<(), Fail> {
         (&["build", "-o", "a.img", "a.c"], &[], b"word 4\n"),
         (&["build"], &[], b"word 2\n"),
         (&[], &[], b"word 1\n"),
+        (&["bild"], &[], b"word 1\n"),
+        (&["run"], &[], b"word 2\n"),
+        (&["run", "a.img", "a.c"], &[], b"word 2\n"),
+        (&["run", "-n"], &[], b"word 3\n"),
+        (&["run", "-n", "4294967296", "a", "b"], &[], b"word 3\n"),
+        (&["run", "-n", "+1", "a", "b"], &[], b"word 3\n"),
+        (&["run", "-n", "1", "a"], &[], b"word 5\n"),
+        (&["run", "-n", "1", "a", "b", "c"], &[], b"word 6\n"),
         (&["build", "-o", "a", "-l", "a", "a.c"], &[], b"word 5\n"),
         (&["build", "-o", "a", "-l", "b", "-c"], &[], b"word 6\n"),
         (
@@ -164,5 +172,150 @@ fn first_run(rt: HostRuntime) -> Result<(), Fail> {
         psp_ns: 0,
     };
     assert_eq!(rt; next_view(&mut machine), Some(answered));
+    Ok(())
+}
+
+/// What is put out by `run` for a script, and the line of its status.
+fn played(
+    alloc: Global,
+    store: &mut MemStore,
+    steps: &str,
+    script: &[u8],
+) -> Result<(Bytes, Bytes), Fail> {
+    if store.write("s.txt", script).is_err() {
+        return Err("the script wasn't written".into());
+    }
+    let words = words_of(alloc, &["run", "-n", steps, "a.img", "s.txt"])?;
+    let mut out = MemSink::new(alloc, &[])?;
+    let status = cmse_main(alloc, words.as_slice(), store, &mut out);
+    let line = status_text(alloc, &status)?;
+    Ok((Bytes::from_slice(alloc, out.given())?, line))
+}
+
+/// A store with the image of a program whose entry answers 42.
+fn answering(alloc: Global) -> Result<MemStore, Fail> {
+    let mut store = store_of(alloc, ANSWER, &[])?;
+    let build = ["build", "-o", "a.img", "-l", "a.lib", "a.c"];
+    let line = line_of(alloc, &build, &mut store)?;
+    if line.is_empty() {
+        Ok(store)
+    } else {
+        Err("the build failed".into())
+    }
+}
+
+const STARTED: &str =
+    "given pc=00000100 r0=00000000 r1=00000000 r2=00000000 r3=00000000 r4=00000000 r5=00000000 r6=00000000 r7=00000000 r8=00000000 r9=00000000 r10=00000000 r11=00000000 r12=00000000 lr=00000100 flags=00 msp=20020000 psp=00000000\n";
+
+const ANSWERED: &str =
+    "given pc=00000200 r0=0000002a r1=00000000 r2=00000000 r3=00000000 r4=00000044 r5=00000000 r6=00000000 r7=00000000 r8=00000000 r9=00000000 r10=00000000 r11=00000000 r12=00000000 lr=00000200 flags=00 msp=20020000 psp=00000000\n";
+
+#[test]
+fn plays_turns(rt: HostRuntime) -> Result<(), Fail> {
+    let alloc = rt.alloc();
+    let mut store = answering(alloc)?;
+    // one turn, the view that it leads to, and how the transcript ends
+    let table: [(&str, &str, &str); 10] = [
+        (
+            "turn 103ff000 r1=11 r4=44 lr=201 flags=1f msp=20020000\n",
+            ANSWERED,
+            "end waiting\n",
+        ),
+        ("turn fefffffe\n", "", "stopped ReturnFault\nend stopped\n"),
+        ("turn 103ff000 lr=103ff001\n", "", "end spent\n"),
+        ("turn 103ff002\n", "", "stopped EntryPoint\nend stopped\n"),
+        ("turn 10000000\n", "", "stopped EntryPoint\nend stopped\n"),
+        ("turn 30000000\n", "", "stopped EntryPoint\nend stopped\n"),
+        ("turn 40000000\n", "", "stopped Astray\nend stopped\n"),
+        ("turn 0 get=30000000\n", "", "stopped Access\nend stopped\n"),
+        ("turn 0 put=0:1\n", "", "stopped Astray\nend stopped\n"),
+        ("turn 101\n", "", "end waiting\n"),
+    ];
+    for (turn, view, end) in table {
+        let mut script = Bytes::from_slice(alloc, b"cmse-script 1\nrom 0 0000022001010000\n")?;
+        script.extend_from_slice(turn.as_bytes())?;
+        let (text, line) = played(alloc, &mut store, "10000", script.as_slice())?;
+        let mut want = Bytes::from_slice(alloc, STARTED.as_bytes())?;
+        want.extend_from_slice(view.as_bytes())?;
+        want.extend_from_slice(end.as_bytes())?;
+        assert!(rt; line.is_empty(), "{turn}");
+        assert_eq!(rt; text.as_slice(), want.as_slice(), "{turn}");
+    }
+    Ok(())
+}
+
+#[test]
+fn unfit_inputs(rt: HostRuntime) -> Result<(), Fail> {
+    let alloc = rt.alloc();
+    let mut store = answering(alloc)?;
+    let (text, line) = played(alloc, &mut store, "1", b"cmse-script 1\nturn 103ff00g\n")?;
+    assert_eq!(rt; line.as_slice(), b"s.txt: bad at 2\n".as_slice());
+    assert!(rt; text.is_empty());
+
+    let words = words_of(alloc, &["run", "-n", "1", "a.img", "s.txt"])?;
+    let mut failing = MemSink::new(alloc, &[1])?;
+    assert!(rt; store.write("s.txt", b"cmse-script 1").is_ok());
+    let status = cmse_main(alloc, words.as_slice(), &mut store, &mut failing);
+    assert_eq!(rt;
+        status_text(alloc, &status)?.as_slice(),
+        b"cannot write -\n".as_slice()
+    );
+
+    let file = store.get("a.img").ok_or("no image")?;
+    let mut changed = Bytes::from_slice(alloc, b"x")?;
+    changed.extend_from_slice(file.get(1..).ok_or("a short image")?)?;
+    assert!(rt; store.write("a.img", changed.as_slice()).is_ok());
+    let (text, line) = played(alloc, &mut store, "1", b"turn 103ff00g\n")?;
+    assert_eq!(rt; line.as_slice(), b"a.img: bad at 0\n".as_slice());
+    assert!(rt; text.is_empty());
+    Ok(())
+}
+
+/// An image of one segment at 10000000: the main stack pointer, the reset address 10000009, and code.
+fn image_with(alloc: Global, code: &[u8]) -> Result<Bytes, Fail> {
+    let mut file = Bytes::from_slice(alloc, b"\x7fELF\x01\x01\x01\0\0\0\0\0\0\0\0\0")?;
+    let size = [
+        u8::try_from(code.len() + 8).map_err(|_| "long code")?,
+        0,
+        0,
+        0,
+    ];
+    // type 2, machine 40, version 1, entry, the program headers at 52, no sections, flags, sizes, one header
+    file.extend_from_slice(b"\x02\0\x28\0\x01\0\0\0\x09\0\0\x10\x34\0\0\0\0\0\0\0\0\0\0\x05")?;
+    file.extend_from_slice(b"\x34\0\x20\0\x01\0\x28\0\0\0\0\0")?;
+    // type 1, from 84 in the file, at 10000000
+    file.extend_from_slice(b"\x01\0\0\0\x54\0\0\0\0\0\0\x10\0\0\0\x10")?;
+    file.extend_from_slice(&size)?;
+    file.extend_from_slice(&size)?;
+    file.extend_from_slice(b"\x05\0\0\0\x04\0\0\0")?;
+    file.extend_from_slice(b"\xf8\x7f\x01\x30\x09\0\0\x10")?;
+    file.extend_from_slice(code)?;
+    Ok(file)
+}
+
+#[test]
+fn images_of_others(rt: HostRuntime) -> Result<(), Fail> {
+    let alloc = rt.alloc();
+    let mut store = store_of(alloc, ANSWER, &[])?;
+    let script = b"cmse-script 1\n";
+
+    // a halfword that is no instruction
+    let image = image_with(alloc, &[0, 0])?;
+    assert!(rt; store.write("a.img", image.as_slice()).is_ok());
+    let (text, line) = played(alloc, &mut store, "10", script)?;
+    assert!(rt; line.is_empty());
+    assert_eq!(rt;
+        text.as_slice(),
+        b"stopped Undefined\nend stopped\n".as_slice()
+    );
+
+    // MOVW r0, 100h and BXNS r0: all other registers are as reset left them
+    let image = image_with(alloc, &[0x40, 0xf2, 0x00, 0x10, 0x04, 0x47])?;
+    assert!(rt; store.write("a.img", image.as_slice()).is_ok());
+    let (text, line) = played(alloc, &mut store, "10", script)?;
+    assert!(rt; line.is_empty());
+    let want =
+        "given pc=00000100 r0=00000100 r1=00000000 r2=00000000 r3=00000000 r4=00000000 r5=00000000 r6=00000000 r7=00000000 r8=00000000 r9=00000000 r10=00000000 r11=00000000 r12=00000000 lr=ffffffff flags=00 msp=00000000 psp=00000000\nend waiting\n";
+    assert_eq!(rt; text.as_slice(), want.as_bytes());
     Ok(())
 }
