@@ -271,15 +271,10 @@ fn unfit_inputs(rt: HostRuntime) -> Result<(), Fail> {
     Ok(())
 }
 
-/// An image of one segment at 10000000: the main stack pointer, the reset address 10000009, and code.
-fn image_with(alloc: Global, code: &[u8]) -> Result<Bytes, Fail> {
+/// An image of one segment of `size` bytes at 10000000: the main stack pointer, the reset address 10000009, and code.
+fn image_with(alloc: Global, size: u8, code: &[u8]) -> Result<Bytes, Fail> {
     let mut file = Bytes::from_slice(alloc, b"\x7fELF\x01\x01\x01\0\0\0\0\0\0\0\0\0")?;
-    let size = [
-        u8::try_from(code.len() + 8).map_err(|_| "long code")?,
-        0,
-        0,
-        0,
-    ];
+    let size = [size, 0, 0, 0];
     // type 2, machine 40, version 1, entry, the program headers at 52, no sections, flags, sizes, one header
     file.extend_from_slice(b"\x02\0\x28\0\x01\0\0\0\x09\0\0\x10\x34\0\0\0\0\0\0\0\0\0\0\x05")?;
     file.extend_from_slice(b"\x34\0\x20\0\x01\0\x28\0\0\0\0\0")?;
@@ -300,7 +295,7 @@ fn images_of_others(rt: HostRuntime) -> Result<(), Fail> {
     let script = b"cmse-script 1\n";
 
     // a halfword that is no instruction
-    let image = image_with(alloc, &[0, 0])?;
+    let image = image_with(alloc, 10, &[0, 0])?;
     assert!(rt; store.write("a.img", image.as_slice()).is_ok());
     let (text, line) = played(alloc, &mut store, "10", script)?;
     assert!(rt; line.is_empty());
@@ -310,7 +305,7 @@ fn images_of_others(rt: HostRuntime) -> Result<(), Fail> {
     );
 
     // MOVW r0, 100h and BXNS r0: all other registers are as reset left them
-    let image = image_with(alloc, &[0x40, 0xf2, 0x00, 0x10, 0x04, 0x47])?;
+    let image = image_with(alloc, 14, &[0x40, 0xf2, 0x00, 0x10, 0x04, 0x47])?;
     assert!(rt; store.write("a.img", image.as_slice()).is_ok());
     let (text, line) = played(alloc, &mut store, "10", script)?;
     assert!(rt; line.is_empty());
