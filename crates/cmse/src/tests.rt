@@ -16,20 +16,28 @@ use v8m_core::{Machine, Stepped};
 /// One line of C with an entry that returns 42.
 const ANSWER: &[u8] = b"int __attribute__((cmse_nonsecure_entry)) answer(void) { return 42; }";
 
-fn words_of(alloc: Global, words: &[&str]) -> Result<Vec<String>, Fail> {
+const BUILD: &str = "build -o a.img -l a.lib a.c";
+
+const RUN: &str = "run -n 10000 a.img s.txt";
+
+/// The words of a command line.
+fn words_of(alloc: Global, line: &str) -> Result<Vec<String>, Fail> {
     let mut list = Vec::new(alloc);
-    for word in words {
-        list.push(String::from_str(alloc, word)?)?;
+    for word in line.split(' ') {
+        if !word.is_empty() {
+            list.push(String::from_str(alloc, word)?)?;
+        }
     }
     Ok(list)
 }
 
-fn store_of(alloc: Global, source: &[u8], fail: &[u32]) -> Result<MemStore, Fail> {
+/// A store with one source, whose call of this number fails.
+fn store_of(alloc: Global, source: &[u8], fail: u32) -> Result<MemStore, Fail> {
     let files = [(
         Text::from_slice(alloc, b"a.c")?,
         Bytes::from_slice(alloc, source)?,
     )];
-    Ok(MemStore::new(alloc, &files, fail)?)
+    Ok(MemStore::new(alloc, &files, &[fail])?)
 }
 
 fn zeros(alloc: Global, n: usize) -> Result<Vec<u8>, NoMemory>
@@ -39,7 +47,7 @@ fn zeros(alloc: Global, n: usize) -> Result<Vec<u8>, NoMemory>
 }
 
 /// What `build` with the words answers, as its line.
-fn line_of(alloc: Global, words: &[&str], store: &mut MemStore) -> Result<Bytes, Fail> {
+fn line_of(alloc: Global, words: &str, store: &mut MemStore) -> Result<Bytes, Fail> {
     let words = words_of(alloc, words)?;
     let mut out = MemSink::new(alloc, &[])?;
     let status = cmse_main(alloc, words.as_slice(), store, &mut out);
@@ -49,43 +57,39 @@ fn line_of(alloc: Global, words: &[&str], store: &mut MemStore) -> Result<Bytes,
 #[test]
 fn ends_with_its_line(rt: HostRuntime) -> Result<(), Fail> {
     let alloc = rt.alloc();
-    let build = ["build", "-o", "a.img", "-l", "a.lib", "a.c"];
-    let swapped = ["build", "-l", "a.lib", "-o", "a.img", "a.c"];
-    let missing = ["build", "-o", "a.img", "-l", "a.lib", "b.c"];
-    // the words, the numbers of the calls of the store that fail, and the line
-    let table: [(&[&str], &[u32], &[u8]); 20] = [
-        (&build, &[], b""),
-        (&swapped, &[], b""),
-        (&missing, &[], b"cannot read b.c\n"),
-        (&build, &[1], b"cannot read a.c\n"),
-        (&build, &[2], b"cannot write a.lib\n"),
-        (&build, &[3], b"cannot write a.img\n"),
-        (&["build", "-o", "a.img", "a.c"], &[], b"word 4\n"),
-        (&["build"], &[], b"word 2\n"),
-        (&[], &[], b"word 1\n"),
-        (&["bild"], &[], b"word 1\n"),
-        (&["run"], &[], b"word 2\n"),
-        (&["run", "a.img", "a.c"], &[], b"word 2\n"),
-        (&["run", "-n"], &[], b"word 3\n"),
-        (&["run", "-n", "4294967296", "a", "b"], &[], b"word 3\n"),
-        (&["run", "-n", "+1", "a", "b"], &[], b"word 3\n"),
-        (&["run", "-n", "1", "a"], &[], b"word 5\n"),
-        (&["run", "-n", "1", "a", "b", "c"], &[], b"word 6\n"),
-        (&["build", "-o", "a", "-l", "a", "a.c"], &[], b"word 5\n"),
-        (&["build", "-o", "a", "-l", "b", "-c"], &[], b"word 6\n"),
-        (
-            &["build", "-o", "a", "-l", "b", "a.c", "b.c"],
-            &[],
-            b"word 7\n",
-        ),
+    // the words, the number of the call of the store that fails, and the line
+    let table: [(&str, u32, &str); 20] = [
+        (BUILD, 0, ""),
+        ("build -l a.lib -o a.img a.c", 0, ""),
+        ("build -o a.img -l a.lib b.c", 0, "cannot read b.c\n"),
+        (BUILD, 1, "cannot read a.c\n"),
+        (BUILD, 2, "cannot write a.lib\n"),
+        (BUILD, 3, "cannot write a.img\n"),
+        ("build -o a.img a.c", 0, "word 4\n"),
+        ("build", 0, "word 2\n"),
+        ("", 0, "word 1\n"),
+        ("bild", 0, "word 1\n"),
+        ("build -o a -l a a.c", 0, "word 5\n"),
+        ("build -o a -l b -c", 0, "word 6\n"),
+        ("build -o a -l b a.c b.c", 0, "word 7\n"),
+        ("run", 0, "word 2\n"),
+        ("run a.img a.c", 0, "word 2\n"),
+        ("run -n", 0, "word 3\n"),
+        ("run -n 4294967296 a b", 0, "word 3\n"),
+        ("run -n +1 a b", 0, "word 3\n"),
+        ("run -n 1 a", 0, "word 5\n"),
+        ("run -n 1 a b c", 0, "word 6\n"),
     ];
     for (words, fail, line) in table {
         let mut store = store_of(alloc, ANSWER, fail)?;
-        assert_eq!(rt; line_of(alloc, words, &mut store)?.as_slice(), line);
+        assert_eq!(rt;
+            line_of(alloc, words, &mut store)?.as_slice(),
+            line.as_bytes()
+        );
     }
-    let mut other = store_of(alloc, b"int answer(void) { return 42; }", &[])?;
+    let mut other = store_of(alloc, b"int answer(void) { return 42; }", 0)?;
     assert_eq!(rt;
-        line_of(alloc, &build, &mut other)?.as_slice(),
+        line_of(alloc, BUILD, &mut other)?.as_slice(),
         b"a.c:1:1: E90\n".as_slice()
     );
     assert_eq!(rt; other.get("a.lib"), None);
@@ -126,12 +130,8 @@ fn next_view(machine: &mut Machine) -> Option<View> {
 #[test]
 fn first_run(rt: HostRuntime) -> Result<(), Fail> {
     let alloc = rt.alloc();
-    let mut store = store_of(alloc, ANSWER, &[])?;
-    let line = line_of(
-        alloc,
-        &["build", "-o", "a.img", "-l", "a.lib", "a.c"],
-        &mut store,
-    )?;
+    let mut store = store_of(alloc, ANSWER, 0)?;
+    let line = line_of(alloc, BUILD, &mut store)?;
     assert!(rt; line.is_empty());
     assert_eq!(rt; store.get("a.lib").ok_or("no library")?.len(), 280);
     let file = store.get("a.img").ok_or("no image")?;
@@ -175,17 +175,17 @@ fn first_run(rt: HostRuntime) -> Result<(), Fail> {
     Ok(())
 }
 
-/// What is put out by `run` for a script, and the line of its status.
+/// What `run` puts out for a script, and the line of its status.
 fn played(
     alloc: Global,
     store: &mut MemStore,
-    steps: &str,
+    words: &str,
     script: &[u8],
 ) -> Result<(Bytes, Bytes), Fail> {
     if store.write("s.txt", script).is_err() {
         return Err("the script wasn't written".into());
     }
-    let words = words_of(alloc, &["run", "-n", steps, "a.img", "s.txt"])?;
+    let words = words_of(alloc, words)?;
     let mut out = MemSink::new(alloc, &[])?;
     let status = cmse_main(alloc, words.as_slice(), store, &mut out);
     let line = status_text(alloc, &status)?;
@@ -194,9 +194,8 @@ fn played(
 
 /// A store with the image of a program whose entry answers 42.
 fn answering(alloc: Global) -> Result<MemStore, Fail> {
-    let mut store = store_of(alloc, ANSWER, &[])?;
-    let build = ["build", "-o", "a.img", "-l", "a.lib", "a.c"];
-    let line = line_of(alloc, &build, &mut store)?;
+    let mut store = store_of(alloc, ANSWER, 0)?;
+    let line = line_of(alloc, BUILD, &mut store)?;
     if line.is_empty() {
         Ok(store)
     } else {
@@ -234,7 +233,7 @@ fn plays_turns(rt: HostRuntime) -> Result<(), Fail> {
     for (turn, view, end) in table {
         let mut script = Bytes::from_slice(alloc, b"cmse-script 1\nrom 0 0000022001010000\n")?;
         script.extend_from_slice(turn.as_bytes())?;
-        let (text, line) = played(alloc, &mut store, "10000", script.as_slice())?;
+        let (text, line) = played(alloc, &mut store, RUN, script.as_slice())?;
         let mut want = Bytes::from_slice(alloc, STARTED.as_bytes())?;
         want.extend_from_slice(view.as_bytes())?;
         want.extend_from_slice(end.as_bytes())?;
@@ -248,11 +247,11 @@ fn plays_turns(rt: HostRuntime) -> Result<(), Fail> {
 fn unfit_inputs(rt: HostRuntime) -> Result<(), Fail> {
     let alloc = rt.alloc();
     let mut store = answering(alloc)?;
-    let (text, line) = played(alloc, &mut store, "1", b"cmse-script 1\nturn 103ff00g\n")?;
+    let (text, line) = played(alloc, &mut store, RUN, b"cmse-script 1\nturn 103ff00g\n")?;
     assert_eq!(rt; line.as_slice(), b"s.txt: bad at 2\n".as_slice());
     assert!(rt; text.is_empty());
 
-    let words = words_of(alloc, &["run", "-n", "1", "a.img", "s.txt"])?;
+    let words = words_of(alloc, RUN)?;
     let mut failing = MemSink::new(alloc, &[1])?;
     assert!(rt; store.write("s.txt", b"cmse-script 1").is_ok());
     let status = cmse_main(alloc, words.as_slice(), &mut store, &mut failing);
@@ -265,7 +264,7 @@ fn unfit_inputs(rt: HostRuntime) -> Result<(), Fail> {
     let mut changed = Bytes::from_slice(alloc, b"x")?;
     changed.extend_from_slice(file.get(1..).ok_or("a short image")?)?;
     assert!(rt; store.write("a.img", changed.as_slice()).is_ok());
-    let (text, line) = played(alloc, &mut store, "1", b"turn 103ff00g\n")?;
+    let (text, line) = played(alloc, &mut store, RUN, b"turn 103ff00g\n")?;
     assert_eq!(rt; line.as_slice(), b"a.img: bad at 0\n".as_slice());
     assert!(rt; text.is_empty());
     Ok(())
@@ -291,13 +290,13 @@ fn image_with(alloc: Global, size: u8, code: &[u8]) -> Result<Bytes, Fail> {
 #[test]
 fn images_of_others(rt: HostRuntime) -> Result<(), Fail> {
     let alloc = rt.alloc();
-    let mut store = store_of(alloc, ANSWER, &[])?;
+    let mut store = store_of(alloc, ANSWER, 0)?;
     let script = b"cmse-script 1\n";
 
     // a halfword that is no instruction
     let image = image_with(alloc, 10, &[0, 0])?;
     assert!(rt; store.write("a.img", image.as_slice()).is_ok());
-    let (text, line) = played(alloc, &mut store, "10", script)?;
+    let (text, line) = played(alloc, &mut store, RUN, script)?;
     assert!(rt; line.is_empty());
     assert_eq!(rt;
         text.as_slice(),
@@ -307,7 +306,7 @@ fn images_of_others(rt: HostRuntime) -> Result<(), Fail> {
     // MOVW r0, 100h and BXNS r0: all other registers are as reset left them
     let image = image_with(alloc, 14, &[0x40, 0xf2, 0x00, 0x10, 0x04, 0x47])?;
     assert!(rt; store.write("a.img", image.as_slice()).is_ok());
-    let (text, line) = played(alloc, &mut store, "10", script)?;
+    let (text, line) = played(alloc, &mut store, RUN, script)?;
     assert!(rt; line.is_empty());
     let want =
         "given pc=00000100 r0=00000100 r1=00000000 r2=00000000 r3=00000000 r4=00000000 r5=00000000 r6=00000000 r7=00000000 r8=00000000 r9=00000000 r10=00000000 r11=00000000 r12=00000000 lr=ffffffff flags=00 msp=00000000 psp=00000000\nend waiting\n";
