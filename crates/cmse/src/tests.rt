@@ -54,45 +54,57 @@ fn line_of(alloc: Global, words: &str, store: &mut MemStore) -> Result<Bytes, Fa
     Ok(status_text(alloc, &status)?)
 }
 
+/// Whether a command ends with this line, over a store whose call of this number fails.
+fn ends(alloc: Global, words: &str, fail: u32, line: &str) -> Result<bool, Fail> {
+    let mut store = store_of(alloc, ANSWER, fail)?;
+    let said = line_of(alloc, words, &mut store)?;
+    Ok(said.as_slice() == line.as_bytes())
+}
+
 #[test]
-fn ends_with_its_line(rt: HostRuntime) -> Result<(), Fail> {
+fn files_that_fail(rt: HostRuntime) -> Result<(), Fail> {
     let alloc = rt.alloc();
-    // the words, the number of the call of the store that fails, and the line
-    let table: [(&str, u32, &str); 20] = [
-        (BUILD, 0, ""),
-        ("build -l a.lib -o a.img a.c", 0, ""),
-        ("build -o a.img -l a.lib b.c", 0, "cannot read b.c\n"),
-        (BUILD, 1, "cannot read a.c\n"),
-        (BUILD, 2, "cannot write a.lib\n"),
-        (BUILD, 3, "cannot write a.img\n"),
-        ("build -o a.img a.c", 0, "word 4\n"),
-        ("build", 0, "word 2\n"),
-        ("", 0, "word 1\n"),
-        ("bild", 0, "word 1\n"),
-        ("build -o a -l a a.c", 0, "word 5\n"),
-        ("build -o a -l b -c", 0, "word 6\n"),
-        ("build -o a -l b a.c b.c", 0, "word 7\n"),
-        ("run", 0, "word 2\n"),
-        ("run a.img a.c", 0, "word 2\n"),
-        ("run -n", 0, "word 3\n"),
-        ("run -n 4294967296 a b", 0, "word 3\n"),
-        ("run -n +1 a b", 0, "word 3\n"),
-        ("run -n 1 a", 0, "word 5\n"),
-        ("run -n 1 a b c", 0, "word 6\n"),
-    ];
-    for (words, fail, line) in table {
-        let mut store = store_of(alloc, ANSWER, fail)?;
-        assert_eq!(rt;
-            line_of(alloc, words, &mut store)?.as_slice(),
-            line.as_bytes()
-        );
-    }
-    let mut other = store_of(alloc, b"int answer(void) { return 42; }", 0)?;
-    assert_eq!(rt;
-        line_of(alloc, BUILD, &mut other)?.as_slice(),
-        b"a.c:1:1: E90\n".as_slice()
-    );
-    assert_eq!(rt; other.get("a.lib"), None);
+    assert!(rt; ends(alloc, "build -l a.lib -o a.img a.c", 0, "")?);
+    assert!(rt; ends(alloc, "build -o a.img -l a.lib b.c", 0, "cannot read b.c\n")?);
+    assert!(rt; ends(alloc, BUILD, 1, "cannot read a.c\n")?);
+    assert!(rt; ends(alloc, BUILD, 2, "cannot write a.lib\n")?);
+    assert!(rt; ends(alloc, BUILD, 3, "cannot write a.img\n")?);
+    Ok(())
+}
+
+#[test]
+fn words_of_build(rt: HostRuntime) -> Result<(), Fail> {
+    let alloc = rt.alloc();
+    assert!(rt; ends(alloc, "build -o a.img a.c", 0, "word 4\n")?);
+    assert!(rt; ends(alloc, "build", 0, "word 2\n")?);
+    assert!(rt; ends(alloc, "", 0, "word 1\n")?);
+    assert!(rt; ends(alloc, "bild", 0, "word 1\n")?);
+    assert!(rt; ends(alloc, "build -o a -l a a.c", 0, "word 5\n")?);
+    assert!(rt; ends(alloc, "build -o a -l b -c", 0, "word 6\n")?);
+    assert!(rt; ends(alloc, "build -o a -l b a.c b.c", 0, "word 7\n")?);
+    Ok(())
+}
+
+#[test]
+fn words_of_run(rt: HostRuntime) -> Result<(), Fail> {
+    let alloc = rt.alloc();
+    assert!(rt; ends(alloc, "run", 0, "word 2\n")?);
+    assert!(rt; ends(alloc, "run a.img a.c", 0, "word 2\n")?);
+    assert!(rt; ends(alloc, "run -n", 0, "word 3\n")?);
+    assert!(rt; ends(alloc, "run -n 4294967296 a b", 0, "word 3\n")?);
+    assert!(rt; ends(alloc, "run -n +1 a b", 0, "word 3\n")?);
+    assert!(rt; ends(alloc, "run -n 1 a", 0, "word 5\n")?);
+    assert!(rt; ends(alloc, "run -n 1 a b c", 0, "word 6\n")?);
+    Ok(())
+}
+
+#[test]
+fn refused_source(rt: HostRuntime) -> Result<(), Fail> {
+    let alloc = rt.alloc();
+    let mut store = store_of(alloc, b"int answer(void) { return 42; }", 0)?;
+    let line = line_of(alloc, BUILD, &mut store)?;
+    assert_eq!(rt; line.as_slice(), b"a.c:1:1: E90\n".as_slice());
+    assert_eq!(rt; store.get("a.lib"), None);
     Ok(())
 }
 
@@ -209,37 +221,99 @@ const STARTED: &str =
 const ANSWERED: &str =
     "given pc=00000200 r0=0000002a r1=00000000 r2=00000000 r3=00000000 r4=00000044 r5=00000000 r6=00000000 r7=00000000 r8=00000000 r9=00000000 r10=00000000 r11=00000000 r12=00000000 lr=00000200 flags=00 msp=20020000 psp=00000000\n";
 
-#[test]
-fn plays_turns(rt: HostRuntime) -> Result<(), Fail> {
-    let alloc = rt.alloc();
+/// Whether one turn leads to this view, and the transcript ends so.
+fn leads_to(alloc: Global, turn: &str, view: &str, end: &str) -> Result<bool, Fail> {
     let mut store = answering(alloc)?;
-    // one turn, the view that it leads to, and how the transcript ends
-    let table: [(&str, &str, &str); 10] = [
-        (
+    let mut script = Bytes::from_slice(alloc, b"cmse-script 1\nrom 0 0000022001010000\n")?;
+    script.extend_from_slice(turn.as_bytes())?;
+    let (text, line) = played(alloc, &mut store, RUN, script.as_slice())?;
+    let mut want = Bytes::from_slice(alloc, STARTED.as_bytes())?;
+    want.extend_from_slice(view.as_bytes())?;
+    want.extend_from_slice(end.as_bytes())?;
+    Ok(line.is_empty() && text.as_slice() == want.as_slice())
+}
+
+#[test]
+fn answers_a_call(rt: HostRuntime) -> Result<(), Fail> {
+    let alloc = rt.alloc();
+    assert!(rt;
+        leads_to(
+            alloc,
             "turn 103ff000 r1=11 r4=44 lr=201 flags=1f msp=20020000\n",
             ANSWERED,
-            "end waiting\n",
-        ),
-        ("turn fefffffe\n", "", "stopped ReturnFault\nend stopped\n"),
-        ("turn 103ff000 lr=103ff001\n", "", "end spent\n"),
-        ("turn 103ff002\n", "", "stopped EntryPoint\nend stopped\n"),
-        ("turn 10000000\n", "", "stopped EntryPoint\nend stopped\n"),
-        ("turn 30000000\n", "", "stopped EntryPoint\nend stopped\n"),
-        ("turn 40000000\n", "", "stopped Astray\nend stopped\n"),
-        ("turn 0 get=30000000\n", "", "stopped Access\nend stopped\n"),
-        ("turn 0 put=0:1\n", "", "stopped Astray\nend stopped\n"),
-        ("turn 101\n", "", "end waiting\n"),
-    ];
-    for (turn, view, end) in table {
-        let mut script = Bytes::from_slice(alloc, b"cmse-script 1\nrom 0 0000022001010000\n")?;
-        script.extend_from_slice(turn.as_bytes())?;
-        let (text, line) = played(alloc, &mut store, RUN, script.as_slice())?;
-        let mut want = Bytes::from_slice(alloc, STARTED.as_bytes())?;
-        want.extend_from_slice(view.as_bytes())?;
-        want.extend_from_slice(end.as_bytes())?;
-        assert!(rt; line.is_empty(), "{turn}");
-        assert_eq!(rt; text.as_slice(), want.as_slice(), "{turn}");
-    }
+            "end waiting\n"
+        )?
+    );
+    assert!(rt;
+        leads_to(
+            alloc,
+            "turn fefffffe\n",
+            "",
+            "stopped ReturnFault\nend stopped\n"
+        )?
+    );
+    assert!(rt; leads_to(alloc, "turn 103ff000 lr=103ff001\n", "", "end spent\n")?);
+    Ok(())
+}
+
+#[test]
+fn stops_at_targets(rt: HostRuntime) -> Result<(), Fail> {
+    let alloc = rt.alloc();
+    assert!(rt;
+        leads_to(
+            alloc,
+            "turn 103ff002\n",
+            "",
+            "stopped EntryPoint\nend stopped\n"
+        )?
+    );
+    assert!(rt;
+        leads_to(
+            alloc,
+            "turn 10000000\n",
+            "",
+            "stopped EntryPoint\nend stopped\n"
+        )?
+    );
+    assert!(rt;
+        leads_to(
+            alloc,
+            "turn 30000000\n",
+            "",
+            "stopped EntryPoint\nend stopped\n"
+        )?
+    );
+    assert!(rt;
+        leads_to(
+            alloc,
+            "turn 40000000\n",
+            "",
+            "stopped Astray\nend stopped\n"
+        )?
+    );
+    Ok(())
+}
+
+#[test]
+fn plays_items(rt: HostRuntime) -> Result<(), Fail> {
+    let alloc = rt.alloc();
+    assert!(rt;
+        leads_to(
+            alloc,
+            "turn 0 get=30000000\n",
+            "",
+            "stopped Access\nend stopped\n"
+        )?
+    );
+    assert!(rt;
+        leads_to(
+            alloc,
+            "turn 0 put=0:1\n",
+            "",
+            "stopped Astray\nend stopped\n"
+        )?
+    );
+    assert!(rt; leads_to(alloc, "turn 101\n", "", "end waiting\n")?);
     Ok(())
 }
 
