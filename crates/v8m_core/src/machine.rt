@@ -78,7 +78,7 @@ fn reset_cpu(memory: &Memory) -> Cpu
     }
 }
 
-/// The least halfword that begins an instruction of two (DDI0553, T32 instruction set encoding).
+/// The least halfword that begins an instruction of two (DDI0553, Thumb instruction set encoding).
 const FIRST_OF_TWO: u16 = 0xE800;
 
 /// The instruction that a halfword is by itself.

@@ -37,7 +37,7 @@ all_in_word fs = list_all are_in_word fs
 abbrev pub not_xor : ℕ → ℕ → ℕ
 not_xor i s = (1 + i + s) % 2
 
--- S:I1:I2:imm10:imm11 as S:J1:J2:imm10:imm11, or back (DDI0553, B, encoding T4)
+-- S:I1:I2:imm10:imm11 as S:J1:J2:imm10:imm11, or back (DDI0553, B, T4 encoding)
 unfoldable pub turn : ℕ → ℕ
 turn x = let s = x / 2 ^ 23 in s * 2 ^ 23 + not_xor (x / 2 ^ 22 % 2) s * 2 ^ 22 + not_xor (x / 2 ^ 21 % 2) s * 2 ^ 21 + x % 2 ^ 21
 

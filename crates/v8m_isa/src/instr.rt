@@ -11,17 +11,17 @@ pub enum Instr {
     Udf { i: u32 },
     /// SG
     Sg,
-    /// MOVW (MOV immediate, T3)
+    /// MOVW (MOV immediate, T3 encoding)
     Movw { d: u32, i: u32 },
     /// MOVT
     Movt { d: u32, i: u32 },
     /// BIC (register), with no shift and no flags
     Bic { d: u32, n: u32, m: u32 },
-    /// LDR (immediate, T3)
+    /// LDR (immediate, T3 encoding)
     Ldr { t: u32, n: u32, i: u32 },
-    /// STR (immediate, T3)
+    /// STR (immediate, T3 encoding)
     Str { t: u32, n: u32, i: u32 },
-    /// B (T4)
+    /// B (T4 encoding)
     B { off: u32 },
     /// MSR (register)
     Msr { s: u32, n: u32 },
