@@ -3,6 +3,7 @@
 #![tactic(auto)]
 
 mod file_store;
+pub mod laws;
 mod list;
 mod mem_sink;
 mod mem_store;
