@@ -3,7 +3,6 @@ use Rattle.std.specs.Prelude.{◌≡◌, ◌≤◌, ◌==◌, ◌&&◌, ◌||◌
 use Rattle.std.specs.Fmt.{decimal}
 use Rattle.std.specs.List.{list_any, list_all, starts_with}
 use Rattle.std.specs.Str.{bytes_eq}
-use Rattle.cmse_build.specs.declared.constant.TheConstants.{KEPT_WORDS}
 
 -- the bytes that begin a name (C11, 6.4.2.1)
 abbrev pub is_letter : ℕ → Bool
@@ -25,9 +24,23 @@ abbrev pub is_decimal : List ℕ → Bool
 is_decimal [] = false
 is_decimal (b ∷ bs) = list_all is_digit (b ∷ bs) && (not (b == 48) || (length bs == 0))
 
+-- the words of the grammar, and those of C that the language leaves out (C11, 6.4.1)
+abbrev pub kept_words : List (List ℕ)
+kept_words =
+    codes "typedef" ∷ codes "extern" ∷ codes "static" ∷ codes "inline" ∷ codes "const" ∷
+    codes "volatile" ∷ codes "void" ∷ codes "char" ∷ codes "short" ∷ codes "int" ∷
+    codes "long" ∷ codes "signed" ∷ codes "unsigned" ∷ codes "struct" ∷ codes "enum" ∷
+    codes "__attribute__" ∷ codes "return" ∷ codes "break" ∷ codes "continue" ∷ codes "if" ∷
+    codes "else" ∷ codes "while" ∷ codes "do" ∷ codes "for" ∷ codes "switch" ∷
+    codes "case" ∷ codes "default" ∷ codes "sizeof" ∷ codes "_Bool" ∷ codes "_Complex" ∷
+    codes "union" ∷ codes "goto" ∷ codes "auto" ∷ codes "register" ∷ codes "restrict" ∷
+    codes "asm" ∷ codes "_Alignas" ∷ codes "_Alignof" ∷ codes "_Atomic" ∷ codes "_Generic" ∷
+    codes "_Noreturn" ∷ codes "_Static_assert" ∷ codes "_Thread_local" ∷ codes "float" ∷ codes "double" ∷
+    []
+
 -- one of the words that no function can have as its name
 unfoldable pub is_kept_word : List ℕ → Bool
-is_kept_word name = list_any (λ word. bytes_eq word.now name) KEPT_WORDS
+is_kept_word name = list_any (λ word. bytes_eq word name) kept_words
 
 -- a kept word, or a name that the tools keep for themselves (ECM0359818)
 unfoldable pub is_kept_name : List ℕ → Bool
