@@ -16,4 +16,5 @@ pub mod PieceLaws
 pub mod ReadLaws
 pub mod SplitLaws
 pub mod StepLaws
+pub mod WholeLaws
 pub mod AnswerLaws

@@ -10,9 +10,8 @@ use Rattle.c_lex.specs.declared.token.Keyword.{Keyword}
 use Rattle.c_lex.specs.declared.token.Keyword.TheVariants as word_is
 use Rattle.c_lex.specs.declared.words.LeftOut.{LeftOut}
 use Rattle.c_lex.specs.declared.words.LeftOut.TheVariants as left_is
-use Rattle.c_lex.specs.declared.words.TheConstants.{WORDS, LEFT_OUT}
 use Rattle.c_lex.specs.Classes.{is_letter, is_name_byte, begins, Run}
-use Rattle.c_lex.specs.Spelling.{word_text, left_out_text, IsNoWord}
+use Rattle.c_lex.specs.Spelling.{word_text, keywords, left_out_text, left_out_words, IsNoWord}
 use Rattle.c_lex.specs.Tokens.{Spelled, name, word, Faulty, long_name, left_out, E01, E06}
 use Rattle.c_lex.specs.Reading.{fault, front, back, same_text, word_of, is_left_out, named, name_at}
 use Rattle.c_lex.proofs.RunLaws.{run_is, run_front, run_back}
@@ -21,7 +20,7 @@ use Rattle.c_lex.proofs.Right.{Right, done, faults, either, ltb_no, ltb_yes}
 -- ---- the tables
 
 word_known : (w : Keyword) → word_of (word_text w) ≡ Some w
-unfolding word_of
+unfolding word_of keywords
 word_known word_is.Typedef = refl
 word_known word_is.Extern = refl
 word_known word_is.Static = refl
@@ -52,7 +51,7 @@ word_known word_is.Default = refl
 word_known word_is.Sizeof = refl
 
 left_known : (w : LeftOut) → is_left_out (left_out_text w) ≡ true
-unfolding is_left_out
+unfolding is_left_out left_out_words
 left_known left_is.Float = refl
 left_known left_is.Double = refl
 left_known left_is.Bool = refl
@@ -72,7 +71,7 @@ left_known left_is.StaticAssert = refl
 left_known left_is.ThreadLocal = refl
 
 left_no_word : (w : LeftOut) → word_of (left_out_text w) ≡ None
-unfolding word_of
+unfolding word_of keywords
 left_no_word left_is.Float = refl
 left_no_word left_is.Double = refl
 left_no_word left_is.Bool = refl
@@ -112,11 +111,11 @@ any_holds p (x ∷ xs) e = go (λ k. any_holds p xs k) (p x) refl e
 
 word_found : (s : List ℕ) (w : Keyword) → word_of s ≡ Some w → s ≡ word_text w
 unfolding word_of
-word_found s w e = sym (same_is (word_text w) s (find_holds (λ v. same_text (word_text v) s) WORDS w e))
+word_found s w e = sym (same_is (word_text w) s (find_holds (λ v. same_text (word_text v) s) keywords w e))
 
 left_found : (s : List ℕ) → is_left_out s ≡ true → (w : LeftOut) × (s ≡ left_out_text w)
 unfolding is_left_out
-left_found s e = let f = any_holds (λ v. same_text (left_out_text v) s) LEFT_OUT e in (f.0, sym (same_is (left_out_text f.0) s f.1))
+left_found s e = let f = any_holds (λ v. same_text (left_out_text v) s) left_out_words e in (f.0, sym (same_is (left_out_text f.0) s f.1))
 
 no_word : (s : List ℕ) → word_of s ≡ None → is_left_out s ≡ false → IsNoWord s
 no_word s e f = record {

@@ -4,7 +4,6 @@ use Rattle.std.specs.Prelude.{◌≡◌, ◌≢◌, ◌≤◌, ℕ, zero, suc, �
 use Rattle.std.specs.Borrow.{Bor}
 use Rattle.std.specs.Cmp.Lexicographic.{pointwise}
 use Rattle.std.specs.List.{list_any}
-use Rattle.c_lex.specs.declared.words.TheConstants.{WORDS, LEFT_OUT}
 use Rattle.c_lex.specs.declared.fault.Fault.{Fault}
 use Rattle.c_lex.specs.declared.fault.PieceError.{PieceError}
 use Rattle.c_lex.specs.declared.fault.PieceError.TheVariants as errors
@@ -18,7 +17,7 @@ use Rattle.c_lex.specs.declared.token.Header.TheVariants as header
 use Rattle.c_lex.specs.declared.token.Punct.{Punct}
 use Rattle.c_lex.specs.declared.token.Punct.TheVariants as mark
 use Rattle.c_lex.specs.Classes.{is_letter, is_digit, is_octal, is_hex, is_name_byte, is_blank, is_space, is_in_line, is_u, is_l, is_plain, digit_value, begins, begins_with}
-use Rattle.c_lex.specs.Spelling.{word_text, left_out_text, begins_hex, value_of, begins_long_long, simple_escape}
+use Rattle.c_lex.specs.Spelling.{word_text, keywords, left_out_text, left_out_words, begins_hex, value_of, begins_long_long, simple_escape}
 use Rattle.c_lex.specs.declared.spot.Spot.{Spot}
 use Rattle.c_lex.specs.declared.token.Token.{Token}
 use Rattle.c_lex.specs.Spot.{start, after}
@@ -70,10 +69,10 @@ strip text p = if same_text (take (length p) text) p then Some (drop (length p) 
 -- ---- names and words
 
 unfoldable pub word_of : List ℕ → Option Keyword
-word_of s = find (λ w. same_text (word_text w) s) WORDS
+word_of s = find (λ w. same_text (word_text w) s) keywords
 
 unfoldable pub is_left_out : List ℕ → Bool
-is_left_out s = list_any (λ w. same_text (left_out_text w) s) LEFT_OUT
+is_left_out s = list_any (λ w. same_text (left_out_text w) s) left_out_words
 
 abbrev pub named : List ℕ → List ℕ → List ℕ → Option Keyword → Read Kind
 named text s rest (Some w) = Ok (kind.Word w, rest)

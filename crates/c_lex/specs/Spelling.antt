@@ -43,6 +43,15 @@ word_text word.Case = codes "case"
 word_text word.Default = codes "default"
 word_text word.Sizeof = codes "sizeof"
 
+-- all of them
+unfoldable pub keywords : List Keyword
+keywords =
+    word.Typedef ∷ word.Extern ∷ word.Static ∷ word.Inline ∷ word.Const ∷ word.Volatile ∷
+    word.Void ∷ word.Char ∷ word.Short ∷ word.Int ∷ word.Long ∷ word.Signed ∷ word.Unsigned ∷
+    word.Struct ∷ word.Enum ∷ word.Attribute ∷
+    word.Return ∷ word.Break ∷ word.Continue ∷ word.If ∷ word.Else ∷ word.While ∷ word.Do ∷ word.For ∷
+    word.Switch ∷ word.Case ∷ word.Default ∷ word.Sizeof ∷ []
+
 -- words of C that this language leaves out
 abbrev pub left_out_text : LeftOut → List ℕ
 left_out_text left.Float = codes "float"
@@ -62,6 +71,12 @@ left_out_text left.Generic = codes "_Generic"
 left_out_text left.Noreturn = codes "_Noreturn"
 left_out_text left.StaticAssert = codes "_Static_assert"
 left_out_text left.ThreadLocal = codes "_Thread_local"
+
+-- all of them
+unfoldable pub left_out_words : List LeftOut
+left_out_words =
+    left.Float ∷ left.Double ∷ left.Bool ∷ left.Complex ∷ left.Union ∷ left.Goto ∷ left.Auto ∷ left.Register ∷ left.Restrict ∷
+    left.Asm ∷ left.Alignas ∷ left.Alignof ∷ left.Atomic ∷ left.Generic ∷ left.Noreturn ∷ left.StaticAssert ∷ left.ThreadLocal ∷ []
 
 -- neither a word of the language nor one that is left out
 pub record IsNoWord (s : List ℕ) : Type 0 where

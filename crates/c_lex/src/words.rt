@@ -141,7 +141,7 @@ fn left_out_text(word: LeftOut) -> &'static [u8]
 }
 
 /// The word that is spelled so.
-#[tactic(auto, unfolding(crate::specs::Reading::word_of))]
+#[tactic(auto, unfolding(crate::specs::Reading::word_of, crate::specs::Spelling::keywords))]
 pub fn word_of(name: &[u8]) -> Option<Keyword>
     ensures { result ≡ reading.word_of name.now }
 {
@@ -149,7 +149,7 @@ pub fn word_of(name: &[u8]) -> Option<Keyword>
 }
 
 /// Whether a word that is left out is spelled so.
-#[tactic(auto, unfolding(crate::specs::Reading::is_left_out))]
+#[tactic(auto, unfolding(crate::specs::Reading::is_left_out, crate::specs::Spelling::left_out_words))]
 pub fn is_left_out(name: &[u8]) -> bool
     ensures { result ≡ reading.is_left_out name.now }
 {
