@@ -1,0 +1,6 @@
+pub mod Answered
+pub mod Complete
+pub mod ExprBegins
+pub mod ExprSteps
+pub mod First
+pub mod Steps
