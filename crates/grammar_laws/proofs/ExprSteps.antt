@@ -15,13 +15,13 @@ use Rattle.c_ast.specs.declared.expr.Access.{Access}
 use Rattle.c_ast.specs.declared.expr.TypeName.{TypeName}
 use Rattle.c_ast.specs.declared.expr.Spec.{Spec}
 use Rattle.c_ast.specs.declared.expr.Abstract.{Abstract}
-use Rattle.c_grammar.specs.Tokens.{access_token, assign_op_of, begins_access, begins_expr, char_of, has, is_name, is_sign, name_of, next_is, number_of, op_of, step_op, step_op_of, step_token, string_of, type_follows, un_op, un_op_of}
+use Rattle.c_grammar.specs.Tokens.{access_token, assign_op_of, begins_access, begins_expr, char_of, has, is_sign, name_of, next_is, number_of, op_of, step_op, step_op_of, step_token, string_of, type_follows, un_op, un_op_of}
 use Rattle.c_grammar.specs.Grammar.{AbstractAt, AccessAt, Accesses, Args, Assign, Binary, Cast, Cond, ExprAt, MoreExprs, MoreOps, Next, Postfix, Primary, SizeofAt, SpecsAt, Stepped, Takes, TypeNameAt, Unary, a_char, a_name, a_number, a_sizeof, a_string, assigned, binaries, called, chosen, converted, counted_unary, exprs, grouped, indexed, link, member_behind, member_of, next_access, next_expr, next_op, no_access, no_args, no_expr, no_op, only_binary, only_cast, only_cond, only_postfix, only_unary, postfixed, prefixed, sizeof_expr, sizeof_type, some_args, step_after, step_before, type_name}
 use Rattle.c_grammar.specs.Reading.{levels, read_access, read_access_item, read_accesses, read_args, read_assign, read_assigned, read_binary, read_called, read_cast, read_chosen, read_cond, read_converted, read_expr, read_expr_item, read_grouped, read_indexed, read_more_exprs, read_more_ops, read_op_item, read_postfix, read_prefixed, read_primary, read_size_of, read_sizeof_expr, read_sizeof_type, read_some_args, read_step_before, read_stepped, read_typename, read_unary}
 use Rattle.c_grammar.specs.Nesting.{deep_expr}
 use Rattle.c_grammar.proofs.Shrinks.{access_shrinks, assign_shrinks, binary_shrinks, next_shrinks, takes_shrinks}
 use Rattle.grammar_laws.specs.Follow.{follow}
-use Rattle.grammar_laws.proofs.First.{char_at, mark_at, name_at, not_access, not_op, number_at, step_mark, string_at, un_mark}
+use Rattle.grammar_laws.proofs.First.{char_at, is_new, mark_at, name_at, not_access, not_op, number_at, step_mark, string_at, un_mark}
 use Rattle.grammar_laws.proofs.Answered.{AbstractReads, AccessReads, AccessesReads, ArgsReads, AssignReads, BinaryReads, CastReads, CondReads, ExprReads, MoreExprsReads, MoreOpsReads, PostfixReads, PrimaryReads, SizeofReads, SpecsReads, SteppedReads, TypeNameReads, UnaryReads}
 use Rattle.grammar_laws.proofs.Steps.{and_last, and_so, done, ends, if_not, if_so, next_expect, next_test, not_next, other, read_by, sign_at, step, takes_take, takes_test, too_deep, turns}
 use Rattle.grammar_laws.proofs.ExprBegins.{assign_begins, cast_begins, cond_begins, postfix_no_step, postfix_no_un, sizeof_no_step, stepped_step, unary_no_type}
@@ -220,9 +220,6 @@ is_char k = is_some (char_of k)
 
 abbrev is_string : Token → Bool
 is_string k = is_some (string_of k)
-
-abbrev is_new : List (List ℕ) → Token → Bool
-is_new names k = is_name names k.kind
 
 pub a_name_by : (names : List (List ℕ)) {ts rest : List Token} {x : Name} (d0 : Takes (name_of names) ts x rest) (n : ℕ) → PrimaryReads (a_name d0) n
 unfolding read_primary deep_expr

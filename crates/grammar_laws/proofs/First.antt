@@ -14,7 +14,7 @@ use Rattle.c_ast.specs.declared.expr.BinOp.{BinOp}
 use Rattle.c_ast.specs.declared.expr.AssignOp.{AssignOp}
 use Rattle.c_ast.specs.declared.expr.SpecWord.{SpecWord}
 use Rattle.c_ast.specs.declared.expr.Expr.{Expr}
-use Rattle.c_grammar.specs.Tokens.{access_token, after, assign_op, assign_op_of, at, begins_access, begins_expr, begins_spec, char_by, char_of, expr_token, has, is, known, mark_by, name_by, name_of, number_by, number_of, op_at, op_of, placed, spec_token, spec_word, spec_word_of, step_op, step_token, string_by, string_of, type_by, type_of, un_op, word_by}
+use Rattle.c_grammar.specs.Tokens.{access_token, after, assign_op, assign_op_of, at, begins_access, begins_expr, begins_spec, char_by, char_of, expr_token, has, is, is_name, known, mark_by, name_by, name_of, number_by, number_of, op_at, op_of, placed, spec_token, spec_word, spec_word_of, step_op, step_token, string_by, string_of, type_by, type_of, un_op, word_by}
 use Rattle.c_grammar.specs.Grammar.{Next, Takes, takes, token}
 use Rattle.grammar_laws.specs.Follow.{follow, level, mark_level}
 use Rattle.grammar_laws.proofs.Steps.{takes_at}
@@ -25,6 +25,9 @@ use Rattle.c_lex.specs.declared.token.Kind.TheVariants as kind
 -- the token after a sign
 pub after_sign : {s : Sign} {ts r : List Token} {p : Place} (test : List Token → Bool) (b : Bool) → Next s ts p r → test r ≡ b → after test ts ≡ b
 after_sign test b (token e) h = h
+
+abbrev pub is_new : List (List ℕ) → Token → Bool
+is_new names k = is_name names k.kind
 
 guard_false : {A : Type 0} (b : Bool) (x y : A) → (if b then None else Some x) ≡ Some y → b ≡ false
 guard_false true x y e = absurd cc
@@ -165,7 +168,7 @@ op_level l mark.AndAnd e = level_by 8 l 5 _ refl e
 op_level l mark.OrOr e = level_by 9 l 4 _ refl e
 op_level l _ e = absurd cc
 
-some_placed : {A : Type 0} (q : Place) (x : Option A) → is_some (placed q x) ≡ is_some x
+pub some_placed : {A : Type 0} (q : Place) (x : Option A) → is_some (placed q x) ≡ is_some x
 some_placed q None = refl
 some_placed q (Some a) = refl
 

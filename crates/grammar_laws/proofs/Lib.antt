@@ -1,6 +1,10 @@
 pub mod Answered
+pub mod Attributes
 pub mod Complete
+pub mod DeclaratorSteps
 pub mod ExprBegins
 pub mod ExprSteps
 pub mod First
 pub mod Steps
+pub mod TypeBegins
+pub mod TypeSteps
