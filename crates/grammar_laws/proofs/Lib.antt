@@ -6,5 +6,10 @@ pub mod ExprBegins
 pub mod ExprSteps
 pub mod First
 pub mod Steps
+pub mod StmtBegins
+pub mod StmtComplete
+pub mod StmtSteps
 pub mod TypeBegins
 pub mod TypeSteps
+pub mod UnitAnswered
+pub mod UnitComplete
