@@ -5,6 +5,7 @@ pub mod DeclaratorSteps
 pub mod ExprBegins
 pub mod ExprSteps
 pub mod First
+pub mod OnlyOne
 pub mod Steps
 pub mod StmtBegins
 pub mod StmtComplete
@@ -13,3 +14,4 @@ pub mod TypeBegins
 pub mod TypeSteps
 pub mod UnitAnswered
 pub mod UnitComplete
+pub mod UnitLaws
