@@ -59,12 +59,6 @@ attrs_read {ts = ts} {so_far = so_far} no_attr stop fuel fits = ends _ _ fuel so
 attrs_read (next_attr d0 m) stop fuel fits =
     turns {o1 = None} {o2 = None} _ _ fuel (attr_at (is_sign (Word word.Attribute)) true (λ q. refl) d0) (and_last _ (attr_read d0) done) (attr_shrinks d0) fits (λ f h. attrs_read m stop f h)
 
--- the first token of a chain of attributes, or the one after it
-pub attrs_at : {names : List (List ℕ)} {ts rest : List Token} {so_far all : List Attr} (test : Token → Bool) (b : Bool) → ((q : Place) → test (record { kind = kind.Word word.Attribute; place = q }) ≡ b) →
-    Attrs names ts so_far all rest → at test rest ≡ b → at test ts ≡ b
-attrs_at test b h no_attr e = e
-attrs_at test b h (next_attr d0 m) e = attr_at test b h d0
-
 pub attrs_follow : {names : List (List ℕ)} {ts rest : List Token} {so_far all : List Attr} → Attrs names ts so_far all rest → follow rest < 14 → follow ts < 14
 attrs_follow no_attr lt = lt
 attrs_follow (next_attr (attr_ d0 d1 d2 d3 d4 d5 d6) m) lt = omega (arith, next_follow d0)

@@ -175,10 +175,10 @@ pub group_named_by : {names : List (List ℕ)} {ts r1 r2 r3 r4 rest : List Token
 unfolding levels read_either read_after_stars read_named_either read_group_either read_suffixes deep_expr
 group_named_by {names = names} d0 d1 d2 d3 d4 n p p2 q true h =
     step _ (stars_read d0 (sign_at star_token false (λ q. refl) d1)) (if_not _ (sign_at (is_new names) false (λ q. refl) d1)
-      (if_so _ (name_opens names true d1 h) (step _ (next_expect d1) (and_so _ p (step _ (next_expect d3) (and_last _ q done))))))
+    (if_so _ (name_opens names true d1 h) (step _ (next_expect d1) (and_so _ p (step _ (next_expect d3) (and_last _ q done))))))
 group_named_by {names = names} {r2 = r2} d0 d1 d2 d3 d4 n p p2 q false h =
     step _ (stars_read d0 (sign_at star_token false (λ q. refl) d1)) (if_not _ (sign_at (is_new names) false (λ q. refl) d1)
-      (if_not _ (name_opens names false d1 h) (if_so _ (group_opens d1 (group_begins names r2 (declarator_either d2) h)) (step _ (next_expect d1) (and_so _ p2 (step _ (next_expect d3) (and_last _ q done)))))))
+    (if_not _ (name_opens names false d1 h) (if_so _ (group_opens d1 (group_begins names r2 (declarator_either d2) h)) (step _ (next_expect d1) (and_so _ p2 (step _ (next_expect d3) (and_last _ q done)))))))
 
 pub unnamed_deep : {names : List (List ℕ)} {ts rest : List Token} {a : Abstract} (d : AbstractAt names ts a rest) → Ended rest → UnnamedReads d 0
 unfolding levels deep_expr
@@ -197,7 +197,7 @@ pub group_unnamed_by : {names : List (List ℕ)} {ts r1 r2 r3 r4 rest : List Tok
 unfolding levels read_either read_after_stars read_group_either read_suffixes deep_expr
 group_unnamed_by {names = names} {r2 = r2} d0 h d1 d2 d3 d4 n p q =
     step _ (stars_read d0 (sign_at star_token false (λ q. refl) d1)) (if_not _ (sign_at (is_new names) false (λ q. refl) d1)
-      (if_not _ (name_opens names false d1 (group_no_name names r2 (group_inside d1 h))) (if_so _ h (step _ (next_expect d1) (and_so _ p (step _ (next_expect d3) (and_last _ q done)))))))
+    (if_not _ (name_opens names false d1 (group_no_name names r2 (group_inside d1 h))) (if_so _ h (step _ (next_expect d1) (and_so _ p (step _ (next_expect d3) (and_last _ q done)))))))
 
 -- a "(" that begins a suffix is followed by no name
 no_name_after : {names : List (List ℕ)} {ts rest : List Token} {xs : List Suffix} → Suffixes names ts [] xs rest → Ended rest → opens_name names ts ≡ false

@@ -197,9 +197,9 @@ pub step_after_by : (names : List (List ℕ)) {ts rest : List Token} {o : Place 
 unfolding read_access deep_expr
 step_after_by names d0 n =
     if_not _ (mark_at step_op (is_sign (Mark mark.BracketOpen)) false (λ q m e. (step_mark names q m e).no_bracket) d0)
-      (if_not _ (mark_at step_op (is_sign (Mark mark.ParenOpen)) false (λ q m e. (step_mark names q m e).no_paren) d0)
-        (if_not _ (mark_at step_op (is_sign (Mark mark.Dot)) false (λ q m e. (step_mark names q m e).no_dot) d0)
-          (if_not _ (mark_at step_op (is_sign (Mark mark.Arrow)) false (λ q m e. (step_mark names q m e).no_arrow) d0) (step _ (takes_take d0) done))))
+    (if_not _ (mark_at step_op (is_sign (Mark mark.ParenOpen)) false (λ q m e. (step_mark names q m e).no_paren) d0)
+    (if_not _ (mark_at step_op (is_sign (Mark mark.Dot)) false (λ q m e. (step_mark names q m e).no_dot) d0)
+    (if_not _ (mark_at step_op (is_sign (Mark mark.Arrow)) false (λ q m e. (step_mark names q m e).no_arrow) d0) (step _ (takes_take d0) done))))
 
 pub some_args_by : {names : List (List ℕ)} {ts r1 rest : List Token} {a : Expr} {xs : List Expr} (d0 : Assign names ts a r1) (d1 : MoreExprs names r1 (a ∷ []) xs rest) (n : ℕ) →
     AssignReads d0 n → MoreExprsReads d1 n (length r1) → ArgsReads (some_args d0 d1) n
@@ -243,4 +243,4 @@ pub grouped_by : {names : List (List ℕ)} {ts r1 r2 rest : List Token} {k c : P
 unfolding read_primary read_grouped deep_expr
 grouped_by {names = names} d0 d1 d2 n p =
     if_not _ (sign_at (is_new names) false (λ q. refl) d0) (if_not _ (sign_at is_number false (λ q. refl) d0) (if_not _ (sign_at is_char false (λ q. refl) d0) (if_not _ (sign_at is_string false (λ q. refl) d0)
-      (step _ (next_expect d0) (and_last _ p (step _ (next_expect d2) done))))))
+    (step _ (next_expect d0) (and_last _ p (step _ (next_expect d2) done))))))

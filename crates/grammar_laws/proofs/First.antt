@@ -180,6 +180,7 @@ not_op l (k ∷ r) lt = go k.kind lt
     mark_by_level : (m : Punct) (b : Bool) → is_some (op_at l m) ≡ b → mark_level m + l < 13 → b ≡ false
     mark_by_level m true e lt = let same : mark_level m + l ≡ 13 = op_level l m e in absurd (omega arith)
     mark_by_level m false e lt = refl
+
     go : (c : Kind) → level c + l < 13 → is_some (mark_by (op_at l) k.place c) ≡ false
     go (kind.Mark m) lt = some_placed k.place (op_at l m) ∙ mark_by_level m _ refl lt
     go _ lt = refl
@@ -192,6 +193,7 @@ not_assign (k ∷ r) lt = go k.kind lt
     mark_by_level : (m : Punct) (b : Bool) → is_some (assign_op m) ≡ b → mark_level m < 2 → b ≡ false
     mark_by_level m true e lt = let same : mark_level m ≡ 2 = assign_level m e in absurd (omega arith)
     mark_by_level m false e lt = refl
+
     go : (c : Kind) → level c < 2 → is_some (mark_by assign_op k.place c) ≡ false
     go (kind.Mark m) lt = some_placed k.place (assign_op m) ∙ mark_by_level m _ refl lt
     go _ lt = refl

@@ -15,3 +15,4 @@ pub mod TypeSteps
 pub mod UnitAnswered
 pub mod UnitComplete
 pub mod UnitLaws
+pub mod Whole

@@ -1,5 +1,5 @@
 -- What the next token says, and what can go on a part.
-use Rattle.std.proofs.Common.{◌≡◌, ℕ, zero, suc, ◌<◌, ◌≤◌, Bool, true, false, List, [], ◌∷◌, length, Option, Some, None, Result, Ok, Err, if◌then◌else◌, refl, sym, ap, subst, arith}
+use Rattle.std.proofs.Common.{◌≡◌, ℕ, zero, suc, ◌<◌, ◌≤◌, Bool, true, false, List, [], ◌∷◌, length, Option, Some, None, Ok, Err, if◌then◌else◌, refl, sym, ap, subst, arith}
 use Rattle.cm_base.specs.declared.place.Place.{Place}
 use Rattle.c_lex.specs.declared.token.Keyword.TheVariants as word
 use Rattle.c_lex.specs.declared.token.Punct.TheVariants as mark
@@ -8,7 +8,6 @@ use Rattle.c_grammar.specs.declared.tokens.Sign.{Sign}
 use Rattle.c_grammar.specs.declared.tokens.Sign.TheVariants.{Word, Mark}
 use Rattle.c_lex.specs.declared.token.Keyword.{Keyword}
 use Rattle.c_lex.specs.declared.token.Punct.{Punct}
-use Rattle.c_lex.specs.declared.token.Kind.{Kind}
 use Rattle.c_lex.specs.declared.token.Kind.TheVariants as kind
 use Rattle.c_grammar.specs.Tokens.{◌>>=◌, Read, of, is, at, next_is, expect, has, take}
 use Rattle.c_grammar.specs.Tokens.{is_word, is_mark}

@@ -1,5 +1,5 @@
 -- What initialisers, declarations and statements begin with.
-use Rattle.std.proofs.Common.{Bool, List, [], false, not, refl, true, ℕ, ◌≡◌, ◌∷◌, ◌||◌, if◌then◌else◌}
+use Rattle.std.proofs.Common.{Bool, List, [], false, not, refl, true, ℕ, ◌≡◌, ◌∷◌, ◌||◌}
 use Rattle.std.specs.Option.{is_some}
 use Rattle.cm_base.specs.declared.place.Place.{Place}
 use Rattle.c_lex.specs.declared.token.Kind.{Kind}

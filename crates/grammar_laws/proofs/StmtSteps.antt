@@ -203,7 +203,7 @@ pub continue_by : (names : List (List ℕ)) {ts r1 rest : List Token} {p c : Pla
 unfolding levels read_stmt deep_block
 continue_by names d0 d1 n =
     if_not _ (other (Mark mark.BraceOpen) d0 refl) (if_not _ (other (Mark mark.Semicolon) d0 refl) (if_not _ (other (Word word.Return) d0 refl) (if_not _ (other (Word word.Break) d0 refl)
-      (if_so _ (next_test d0) (step _ (next_expect d0) (step _ (next_expect d1) done))))))
+    (if_so _ (next_test d0) (step _ (next_expect d0) (step _ (next_expect d1) done))))))
 
 -- a statement that begins with a word after "continue" in the order of the tests
 abbrev late : Keyword → Bool
@@ -216,11 +216,11 @@ late _ = false
 
 late_stmt : (names : List (List ℕ)) (below : Readers) {w : Keyword} {ts r : List Token} {p : Place} {o : Option ℕ} {x : Stmt × List Token} → Next (Word w) ts p r → late w ≡ true →
     Answers (if next_is (Word word.If) ts then read_if_stmt names below ts
-      else if next_is (Word word.While) ts then read_while_stmt names below ts
-      else if next_is (Word word.Do) ts then read_do_stmt names below ts
-      else if next_is (Word word.For) ts then read_for_stmt names below ts
-      else if next_is (Word word.Switch) ts then read_switch_stmt names below ts
-      else read_expr names below ts >>= (λ e. expect (Mark mark.Semicolon) e.1 >>= (λ c. Ok (stmt.Expr e.0, c.1)))) o x →
+    else if next_is (Word word.While) ts then read_while_stmt names below ts
+    else if next_is (Word word.Do) ts then read_do_stmt names below ts
+    else if next_is (Word word.For) ts then read_for_stmt names below ts
+    else if next_is (Word word.Switch) ts then read_switch_stmt names below ts
+    else read_expr names below ts >>= (λ e. expect (Mark mark.Semicolon) e.1 >>= (λ c. Ok (stmt.Expr e.0, c.1)))) o x →
     Answers (read_stmt names below ts) o x
 unfolding read_stmt
 late_stmt names below {w = w} d h q =
@@ -229,9 +229,11 @@ late_stmt names below {w = w} d h q =
     no_return : (w : Keyword) → late w ≡ true → is (kind.Word w) (Word word.Return) ≡ false
     no_return word.Return h = absurd cc
     no_return _ h = refl
+
     no_break : (w : Keyword) → late w ≡ true → is (kind.Word w) (Word word.Break) ≡ false
     no_break word.Break h = absurd cc
     no_break _ h = refl
+
     no_continue : (w : Keyword) → late w ≡ true → is (kind.Word w) (Word word.Continue) ≡ false
     no_continue word.Continue h = absurd cc
     no_continue _ h = refl
@@ -262,7 +264,7 @@ pub do_by : {names : List (List ℕ)} {ts r1 r2 r3 r4 r5 r6 rest : List Token} {
 unfolding levels read_do_stmt deep_block
 do_by d0 d1 d2 d3 d4 d5 d6 n p q =
     late_stmt _ _ d0 refl (if_not _ (other (Word word.If) d0 refl) (if_not _ (other (Word word.While) d0 refl) (if_so _ (next_test d0)
-      (step _ (next_expect d0) (and_so _ p (step _ (next_expect d2) (step _ (next_expect d3) (and_last _ q (step _ (next_expect d5) (step _ (next_expect d6) done))))))))))
+    (step _ (next_expect d0) (and_so _ p (step _ (next_expect d2) (step _ (next_expect d3) (and_last _ q (step _ (next_expect d5) (step _ (next_expect d6) done))))))))))
 
 pub for_by : {names : List (List ℕ)} {ts r1 r2 r3 r4 r5 r6 r7 rest : List Token} {p o c c2 : Place} {f : First} {t x : Option Expr} {a : Stmt}
     (d0 : Next (Word word.For) ts p r1) (d1 : Next (Mark mark.ParenOpen) r1 o r2) (d2 : FirstAt names r2 f r3) (d3 : OptExpr names r3 t r4) (d4 : Next (Mark mark.Semicolon) r4 c r5) (d5 : OptExpr names r5 x r6) (d6 : Next (Mark mark.ParenClose) r6 c2 r7) (d7 : StmtAt names r7 a rest) (n : ℕ) →
@@ -270,7 +272,7 @@ pub for_by : {names : List (List ℕ)} {ts r1 r2 r3 r4 r5 r6 r7 rest : List Toke
 unfolding levels read_for_stmt deep_block
 for_by d0 d1 d2 d3 d4 d5 d6 d7 n p q r s =
     late_stmt _ _ d0 refl (if_not _ (other (Word word.If) d0 refl) (if_not _ (other (Word word.While) d0 refl) (if_not _ (other (Word word.Do) d0 refl) (if_so _ (next_test d0)
-      (step _ (next_expect d0) (step _ (next_expect d1) (and_so _ p (and_so _ q (step _ (next_expect d4) (and_so _ r (step _ (next_expect d6) (and_last _ s done))))))))))))
+    (step _ (next_expect d0) (step _ (next_expect d1) (and_so _ p (and_so _ q (step _ (next_expect d4) (and_so _ r (step _ (next_expect d6) (and_last _ s done))))))))))))
 
 pub switch_by : {names : List (List ℕ)} {ts r1 r2 r3 r4 r5 r6 rest : List Token} {p o c o2 c2 : Place} {e : Expr} {xs : List Part}
     (d0 : Next (Word word.Switch) ts p r1) (d1 : Next (Mark mark.ParenOpen) r1 o r2) (d2 : ExprAt names r2 e r3) (d3 : Next (Mark mark.ParenClose) r3 c r4) (d4 : Next (Mark mark.BraceOpen) r4 o2 r5) (d5 : Parts names r5 [] xs r6) (d6 : Next (Mark mark.BraceClose) r6 c2 rest) (n : ℕ) →
@@ -278,15 +280,15 @@ pub switch_by : {names : List (List ℕ)} {ts r1 r2 r3 r4 r5 r6 rest : List Toke
 unfolding levels read_switch_stmt read_parts deep_block
 switch_by d0 d1 d2 d3 d4 d5 d6 n p q =
     late_stmt _ _ d0 refl (if_not _ (other (Word word.If) d0 refl) (if_not _ (other (Word word.While) d0 refl) (if_not _ (other (Word word.Do) d0 refl) (if_not _ (other (Word word.For) d0 refl) (if_so _ (next_test d0)
-      (step _ (next_expect d0) (step _ (next_expect d1) (and_so _ p (step _ (next_expect d3) (step _ (next_expect d4) (and_last _ q (step _ (next_expect d6) done))))))))))))
+    (step _ (next_expect d0) (step _ (next_expect d1) (and_so _ p (step _ (next_expect d3) (step _ (next_expect d4) (and_last _ q (step _ (next_expect d6) done))))))))))))
 
 pub expr_stmt_by : {names : List (List ℕ)} {ts r1 rest : List Token} {e : Expr} {c : Place} (d0 : ExprAt names ts e r1) (d1 : Next (Mark mark.Semicolon) r1 c rest) (n : ℕ) → ExprReads d0 n → StmtReads (expr_stmt d0 d1) (suc n)
 unfolding levels read_stmt deep_block
 expr_stmt_by {names = names} {ts = ts} d0 d1 n p =
     let b = expr_begins d0 in
     if_not _ (expr_not names ts (is_sign (Mark mark.BraceOpen)) (λ k h. h.no_open) b) (if_not _ (expr_not names ts (is_sign (Mark mark.Semicolon)) (λ k h. h.no_semicolon) b)
-      (if_not _ (expr_not names ts (is_sign (Word word.Return)) (λ k h. h.no_return) b) (if_not _ (expr_not names ts (is_sign (Word word.Break)) (λ k h. h.no_break) b)
-      (if_not _ (expr_not names ts (is_sign (Word word.Continue)) (λ k h. h.no_continue) b) (if_not _ (expr_not names ts (is_sign (Word word.If)) (λ k h. h.no_if) b)
-      (if_not _ (expr_not names ts (is_sign (Word word.While)) (λ k h. h.no_while) b) (if_not _ (expr_not names ts (is_sign (Word word.Do)) (λ k h. h.no_do) b)
-      (if_not _ (expr_not names ts (is_sign (Word word.For)) (λ k h. h.no_for) b) (if_not _ (expr_not names ts (is_sign (Word word.Switch)) (λ k h. h.no_switch) b)
-      (and_last _ p (step _ (next_expect d1) done)))))))))))
+    (if_not _ (expr_not names ts (is_sign (Word word.Return)) (λ k h. h.no_return) b) (if_not _ (expr_not names ts (is_sign (Word word.Break)) (λ k h. h.no_break) b)
+    (if_not _ (expr_not names ts (is_sign (Word word.Continue)) (λ k h. h.no_continue) b) (if_not _ (expr_not names ts (is_sign (Word word.If)) (λ k h. h.no_if) b)
+    (if_not _ (expr_not names ts (is_sign (Word word.While)) (λ k h. h.no_while) b) (if_not _ (expr_not names ts (is_sign (Word word.Do)) (λ k h. h.no_do) b)
+    (if_not _ (expr_not names ts (is_sign (Word word.For)) (λ k h. h.no_for) b) (if_not _ (expr_not names ts (is_sign (Word word.Switch)) (λ k h. h.no_switch) b)
+    (and_last _ p (step _ (next_expect d1) done)))))))))))

@@ -65,13 +65,13 @@ pub an_attr_by : {names : List (List ℕ)} {ts rest : List Token} {a : Attr} (d0
 unfolding read_spec deep_expr
 an_attr_by d0 n =
     if_not _ (attr_at is_spec_word false (λ q. refl) d0) (if_not _ (attr_at (is_sign (Word word.Struct)) false (λ q. refl) d0) (if_not _ (attr_at (is_sign (Word word.Enum)) false (λ q. refl) d0)
-      (if_so _ (attr_at (is_sign (Word word.Attribute)) true (λ q. refl) d0) (and_last _ (attr_read d0) done))))
+    (if_so _ (attr_at (is_sign (Word word.Attribute)) true (λ q. refl) d0) (and_last _ (attr_read d0) done))))
 
 pub a_type_by : (names : List (List ℕ)) {ts rest : List Token} {x : Name} (d0 : Takes (type_of names) ts x rest) (n : ℕ) → SpecReads {names = names} (a_type d0) n
 unfolding read_spec deep_expr
 a_type_by names d0 n =
     if_not _ (type_at names is_spec_word false (λ q x h. refl) d0) (if_not _ (type_at names (is_sign (Word word.Struct)) false (λ q x h. refl) d0) (if_not _ (type_at names (is_sign (Word word.Enum)) false (λ q x h. refl) d0)
-      (if_not _ (type_at names (is_sign (Word word.Attribute)) false (λ q x h. refl) d0) (step _ (takes_take d0) done))))
+    (if_not _ (type_at names (is_sign (Word word.Attribute)) false (λ q x h. refl) d0) (step _ (takes_take d0) done))))
 
 -- ---- structs
 

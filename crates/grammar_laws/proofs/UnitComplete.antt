@@ -57,7 +57,7 @@ value_external : {names : List (List ℕ)} {ts r1 r2 r3 r4 r5 r6 rest : List Tok
 unfolding read_external read_after_specs read_declared read_after_attrs read_other_inits read_first_init read_first_value read_attrs read_more_inits
 value_external d0 e0 e1 e2 e3 d2 d3 n p q r s =
     and_so _ p (if_not _ (declarator_no_semicolon e0) (and_so _ q (step _ (attrs_read e1 (other (Word word.Attribute) e2 refl) _ (omega arith)).holds (if_not _ (other (Mark mark.BraceOpen) e2 refl)
-      (and_so _ (if_so _ (next_test e2) (step _ (next_expect e2) (and_last _ r done))) (and_last _ s (step _ (next_expect d3) done)))))))
+    (and_so _ (if_so _ (next_test e2) (step _ (next_expect e2) (and_last _ r done))) (and_last _ s (step _ (next_expect d3) done)))))))
 
 plain_external : {names : List (List ℕ)} {ts r1 r2 r3 r4 rest : List Token} {s : List Spec} {x : Declarator} {xs : List Attr} {c : Place} {all : List Init}
     (d0 : SpecsAt names ts s r1) (e0 : DeclaratorAt names r1 x r2) (e1 : Attrs names r2 [] xs r3)
@@ -66,7 +66,7 @@ plain_external : {names : List (List ℕ)} {ts r1 r2 r3 r4 rest : List Token} {s
 unfolding read_external read_after_specs read_declared read_after_attrs read_other_inits read_first_init read_attrs read_more_inits deep_decl deep_init
 plain_external d0 e0 e1 d2 d3 n p q r =
     and_so _ p (if_not _ (declarator_no_semicolon e0) (and_so _ q (step _ (attrs_read e1 (more_inits_no_attr d2 d3) _ (omega arith)).holds (if_not _ (more_inits_at (is_sign (Mark mark.BraceOpen)) false (λ q. refl) (λ q. refl) d2 d3)
-      (and_so {o1 = None} _ (if_not _ (more_inits_at (is_sign (Mark mark.Assign)) false (λ q. refl) (λ q. refl) d2 d3) done) (and_last _ r (step _ (next_expect d3) done)))))))
+    (and_so {o1 = None} _ (if_not _ (more_inits_at (is_sign (Mark mark.Assign)) false (λ q. refl) (λ q. refl) d2 d3) done) (and_last _ r (step _ (next_expect d3) done)))))))
 
 function_external : {names : List (List ℕ)} {ts r1 r2 r3 rest : List Token} {s : List Spec} {x : Declarator} {xs : List Attr} {b : Block}
     (d0 : SpecsAt names ts s r1) (d1 : DeclaratorAt names r1 x r2) (d2 : Attrs names r2 [] xs r3) (d3 : BlockAt names r3 b rest) (n : ℕ) →
@@ -74,14 +74,14 @@ function_external : {names : List (List ℕ)} {ts r1 r2 r3 rest : List Token} {s
 unfolding read_external read_after_specs read_declared read_after_attrs read_function_body read_attrs deep_function
 function_external d0 d1 d2 d3 n p q r =
     and_so _ p (if_not _ (declarator_no_semicolon d1) (and_so _ q (step _ (attrs_read d2 (block_at (is_sign (Word word.Attribute)) false (λ q. refl) d3) _ (omega arith)).holds
-      (if_so _ (block_at (is_sign (Mark mark.BraceOpen)) true (λ q. refl) d3) (and_last _ r done)))))
+    (if_so _ (block_at (is_sign (Mark mark.BraceOpen)) true (λ q. refl) d3) (and_last _ r done)))))
 
 decl_external : {names : List (List ℕ)} {ts rest : List Token} {a : Decl} (d : DeclAt names ts a rest) (n : ℕ) → DeclExternal d n
 unfolding deep_decl deep_init
 decl_external (bare_decl d0 d1) n = bare_external d0 d1 n (specs_read d0 n)
 decl_external (inits_decl d0 (init_value e0 e1 e2 e3) d2 d3) n =
     rw (earlier_on (deep_declarator e0 n) (deep_initial e3 n) (deep_more_inits d2 n))
-      (value_external d0 e0 e1 e2 e3 d2 d3 n (specs_read d0 n) (declarator_read e0 n (attrs_follow e1 (omega (arith, next_follow e2)))) (initial_read e3 n (more_inits_follow d2 d3)) (more_inits_read d2 n d3 _ (omega arith)))
+    (value_external d0 e0 e1 e2 e3 d2 d3 n (specs_read d0 n) (declarator_read e0 n (attrs_follow e1 (omega (arith, next_follow e2)))) (initial_read e3 n (more_inits_follow d2 d3)) (more_inits_read d2 n d3 _ (omega arith)))
 decl_external (inits_decl d0 (init_plain e0 e1) d2 d3) n =
     plain_external d0 e0 e1 d2 d3 n (specs_read d0 n) (declarator_read e0 n (attrs_follow e1 (omega (arith, more_inits_follow d2 d3)))) (more_inits_read d2 n d3 _ (omega arith))
 
@@ -98,6 +98,7 @@ pub record UnitReads {names : List (List ℕ)} {ts : List Token} {so_far all : L
   pub last : List (List ℕ)
   pub reads : (fuel : ℕ) → length ts ≤ fuel → Answers (repeat is_some_token (read_part_of_unit n) fuel (names, so_far) ts) (deep_unit d n) ((last, all), [])
 
+-- a part takes a token
 some_token : (ts r : List Token) → length r < length ts → is_some_token ts ≡ true
 some_token [] r lt = absurd (omega arith)
 some_token (k ∷ ts) r lt = refl
@@ -134,13 +135,13 @@ unfolding deep_unit
 unit_reads {names = names} {so_far = so_far} unit_end n = record { last = names; reads = λ fuel fits. ends _ _ fuel (names, so_far) [] refl }
 unit_reads {names = names} {ts = ts} {so_far = so_far} (unit_include {rest = rest} d m) n =
     let h = unit_reads m n in
-    record { last = h.last; reads = λ fuel fits. turns {o1 = None} _ _ fuel (some_token ts rest (omega (arith, takes_shrinks d))) (include_part d n names so_far) (omega (arith, takes_shrinks d)) fits (λ f k. h.reads f k) }
+    record { last = h.last; reads = λ fuel fits. turns {o1 = None} {o2 = deep_unit m n} _ _ fuel (some_token ts rest (omega (arith, takes_shrinks d))) (include_part d n names so_far) (omega (arith, takes_shrinks d)) fits (λ f k. h.reads f k) }
 unit_reads {ts = ts} {so_far = so_far} (unit_decl {rest = rest} d m) n =
     let h = unit_reads m n in
-    record { last = h.last; reads = λ fuel fits. turns _ _ fuel (some_token ts rest (decl_shrinks d)) (decl_part_of d n so_far) (decl_shrinks d) fits (λ f k. h.reads f k) }
+    record { last = h.last; reads = λ fuel fits. turns {o2 = deep_unit m n} _ _ fuel (some_token ts rest (decl_shrinks d)) (decl_part_of d n so_far) (decl_shrinks d) fits (λ f k. h.reads f k) }
 unit_reads {ts = ts} {so_far = so_far} (unit_function {rest = rest} d m) n =
     let h = unit_reads m n in
-    record { last = h.last; reads = λ fuel fits. turns _ _ fuel (some_token ts rest (function_shrinks d)) (function_part d n so_far) (function_shrinks d) fits (λ f k. h.reads f k) }
+    record { last = h.last; reads = λ fuel fits. turns {o2 = deep_unit m n} _ _ fuel (some_token ts rest (function_shrinks d)) (function_part d n so_far) (function_shrinks d) fits (λ f k. h.reads f k) }
 
 -- what the tokens derive is read, or refused at its first token that is nested too deeply
 pub unit_read : (n : ℕ) (ts : List Token) (all : List External) (d : Derives ts all) → (last : List (List ℕ)) × Answers (read_unit n ts) (deep_unit d n) ((last, all), [])

@@ -3,7 +3,7 @@ use Rattle.std.proofs.Common.{Err, List, None, Ok, Option, Some, [], sym, â„•, â
 use Rattle.c_lex.specs.declared.token.Token.{Token}
 use Rattle.c_grammar.specs.declared.tokens.Fault.TheVariants.{Deep, Syntax}
 use Rattle.c_ast.specs.declared.stmt.External.{External}
-use Rattle.c_grammar.specs.Tokens.{Read, at}
+use Rattle.c_grammar.specs.Tokens.{Read}
 use Rattle.c_grammar.specs.Units.{Derives}
 use Rattle.c_grammar.specs.Reading.{read_unit}
 use Rattle.c_grammar.specs.Nesting.{deep_unit}

@@ -28,3 +28,8 @@ pub fn refused_law()
 pub fn only_one()
     ensures { (ts : List lexed.Token) (a b : List tree.External) → Derives ts a → Derives ts b → a ≡ b }
 {}
+
+/// A unit that is read ends with the tokens.
+pub fn whole_law()
+    ensures { (n : ℕ) (ts : List lexed.Token) (u : Unit_so_far) (rest : List lexed.Token) → read_unit n ts ≡ Ok (u, rest) → rest ≡ [] }
+{}
