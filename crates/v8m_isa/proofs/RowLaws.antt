@@ -10,39 +10,52 @@ use Rattle.std.proofs.Math.Nat.{mod-eq_of_lt, pow-le-pow_right}
 use Rattle.v8m_isa.specs.declared.form.Piece.{Piece}
 use Rattle.v8m_isa.specs.declared.form.Field.{Field}
 use Rattle.v8m_isa.specs.declared.form.Kind.{Kind}
-use Rattle.v8m_isa.specs.Form.{put, put_all, is_in_word, are_in_word, all_in_word, bits_of, number_of, field_put, field_got, field_takes, fields_put, fields_got, all_taken, word_of, Row}
+use Rattle.v8m_isa.specs.declared.operand.Operand.{Operand}
+use Rattle.v8m_isa.specs.Form.{put, put_all, is_in_word, are_in_word, all_in_word, field_of, fields_of, bits_of, number_of, field_put, field_got, field_takes, fields_put, fields_got, all_taken, word_of, Row}
 use Rattle.v8m_isa.proofs.PieceLaws.{or_assoc, and_parts, slot, slot_or, slot_zero, slot_or_zero, slot-put_all, is_clear, AreZero, AreZero-zero, AreZero-or, AreZero-put, Show, width, is_whole, are_apart, got_all-show, show-put_all}
 use Rattle.v8m_isa.proofs.KindLaws.{has_width, shown}
 
 -- the loops over the fields
-pub fields_put_more : (fs : List Field) (vs : List ℕ) (k w y : ℕ) (d : Field) (e : ℕ) → k < length fs → k < length vs → y ≡ field_put (get_or fs k d) (get_or vs k e) → bit_or (bit_or w y) (fields_put (drop (k + 1) fs) (drop (k + 1) vs)) ≡ bit_or w (fields_put (drop k fs) (drop k vs))
+field_at : (os : List Operand) (k : ℕ) (d : Operand) → k < length os → get_or (fields_of os) k (field_of d) ≡ field_of (get_or os k d)
+field_at os k d lt = get_or-map field_of os k d (field_of d) lt
+
+more_fields : (os : List Operand) (k : ℕ) (d : Operand) → k < length os → drop k (fields_of os) ≡ field_of (get_or os k d) ∷ drop (k + 1) (fields_of os)
+more_fields os k d lt = drop_more (fields_of os) k (field_of d) (let l = length-map os field_of in omega arith) ∙ ap (λ f. f ∷ drop (k + 1) (fields_of os)) (field_at os k d lt)
+
+no_fields : (os : List Operand) (k : ℕ) → length os ≤ k → drop k (fields_of os) ≡ []
+no_fields os k le = drop_all k (fields_of os) (let l = length-map os field_of in omega arith)
+
+pub fields_put_more : (os : List Operand) (vs : List ℕ) (k w y : ℕ) (f : Field) (d : Operand) (e : ℕ) → k < length os → k < length vs → f ≡ field_of (get_or os k d) → y ≡ field_put f (get_or vs k e) → bit_or (bit_or w y) (fields_put (drop (k + 1) (fields_of os)) (drop (k + 1) vs)) ≡ bit_or w (fields_put (drop k (fields_of os)) (drop k vs))
 unfolding fields_put
-fields_put_more fs vs k w y d e lt lv is =
-    or_assoc w y (fields_put (drop (k + 1) fs) (drop (k + 1) vs))
-    ∙ ap (λ b. bit_or w (bit_or b (fields_put (drop (k + 1) fs) (drop (k + 1) vs)))) is
-    ∙ sym (ap (λ qs. bit_or w (fields_put qs (drop k vs))) (drop_more fs k d lt) ∙ ap (λ us. bit_or w (fields_put (get_or fs k d ∷ drop (k + 1) fs) us)) (drop_more vs k e lv))
+fields_put_more os vs k w y f d e lt lv same is =
+    let rest = fields_put (drop (k + 1) (fields_of os)) (drop (k + 1) vs) in
+    or_assoc w y (fields_put (drop (k + 1) (fields_of os)) (drop (k + 1) vs))
+    ∙ ap (λ b. bit_or w (bit_or b rest)) (is ∙ ap (λ g. field_put g (get_or vs k e)) same)
+    ∙ sym (ap (λ qs. bit_or w (fields_put qs (drop k vs))) (more_fields os k d lt) ∙ ap (λ us. bit_or w (fields_put (field_of (get_or os k d) ∷ drop (k + 1) (fields_of os)) us)) (drop_more vs k e lv))
 
-pub fields_put_end : (fs : List Field) (vs : List ℕ) (k w : ℕ) → length fs ≤ k → bit_or w (fields_put (drop k fs) (drop k vs)) ≡ w
+pub fields_put_end : (os : List Operand) (vs : List ℕ) (k w : ℕ) → length os ≤ k → bit_or w (fields_put (drop k (fields_of os)) (drop k vs)) ≡ w
 unfolding fields_put
-fields_put_end fs vs k w le = ap (λ qs. bit_or w (fields_put qs (drop k vs))) (drop_all k fs le) ∙ or_zero_r w
+fields_put_end os vs k w le = ap (λ qs. bit_or w (fields_put qs (drop k vs))) (no_fields os k le) ∙ or_zero_r w
 
-pub all_taken_more : (fs : List Field) (vs : List ℕ) (k : ℕ) (t : Bool) (d : Field) (e : ℕ) → k < length fs → k < length vs → t ≡ field_takes (get_or fs k d) (get_or vs k e) → all_taken (drop k fs) (drop k vs) ≡ (t && all_taken (drop (k + 1) fs) (drop (k + 1) vs))
+pub all_taken_more : (os : List Operand) (vs : List ℕ) (k : ℕ) (t : Bool) (f : Field) (d : Operand) (e : ℕ) → k < length os → k < length vs → f ≡ field_of (get_or os k d) → t ≡ field_takes f (get_or vs k e) → all_taken (drop k (fields_of os)) (drop k vs) ≡ (t && all_taken (drop (k + 1) (fields_of os)) (drop (k + 1) vs))
 unfolding all_taken
-all_taken_more fs vs k t d e lt lv is =
-    ap (λ qs. all_taken qs (drop k vs)) (drop_more fs k d lt)
-    ∙ ap (λ us. all_taken (get_or fs k d ∷ drop (k + 1) fs) us) (drop_more vs k e lv)
-    ∙ ap (λ b. b && all_taken (drop (k + 1) fs) (drop (k + 1) vs)) (sym is)
+all_taken_more os vs k t f d e lt lv same is =
+    ap (λ qs. all_taken qs (drop k vs)) (more_fields os k d lt)
+    ∙ ap (λ us. all_taken (field_of (get_or os k d) ∷ drop (k + 1) (fields_of os)) us) (drop_more vs k e lv)
+    ∙ ap (λ b. b && all_taken (drop (k + 1) (fields_of os)) (drop (k + 1) vs)) (sym (is ∙ ap (λ g. field_takes g (get_or vs k e)) same))
 
-pub all_taken_end : (fs : List Field) (vs : List ℕ) (k : ℕ) → length fs ≤ k → length vs ≤ k → all_taken (drop k fs) (drop k vs) ≡ true
+pub all_taken_end : (os : List Operand) (vs : List ℕ) (k : ℕ) → length os ≤ k → length vs ≤ k → all_taken (drop k (fields_of os)) (drop k vs) ≡ true
 unfolding all_taken
-all_taken_end fs vs k le lv = ap (λ qs. all_taken qs (drop k vs)) (drop_all k fs le) ∙ ap (all_taken []) (drop_all k vs lv)
+all_taken_end os vs k le lv = ap (λ qs. all_taken qs (drop k vs)) (no_fields os k le) ∙ ap (all_taken []) (drop_all k vs lv)
 
-pub fields_got_more : (fs : List Field) (vs : List ℕ) (w k y : ℕ) (d : Field) → k < length fs → length vs ≡ length fs → y ≡ field_got (get_or fs k d) w → take k vs ≡ take k (fields_got fs w) → take (k + 1) (slice_set vs k y) ≡ take (k + 1) (fields_got fs w)
-fields_got_more fs vs w k y d lt e is h =
+pub fields_got_more : (os : List Operand) (vs : List ℕ) (w k y : ℕ) (f : Field) (d : Operand) → k < length os → length vs ≡ length os → f ≡ field_of (get_or os k d) → y ≡ field_got f w → take k vs ≡ take k (fields_got (fields_of os) w) → take (k + 1) (slice_set vs k y) ≡ take (k + 1) (fields_got (fields_of os) w)
+fields_got_more os vs w k y f d lt e same is h =
+    let l = length-map os field_of in
+    let more : k < length (fields_of os) = omega arith in
     take_more_set vs k y (omega arith)
     ∙ ap (λ us. us ++ y ∷ []) h
-    ∙ ap (λ x. take k (fields_got fs w) ++ x ∷ []) (is ∙ sym (get_or-map (λ f. field_got f w) fs k d 0 lt))
-    ∙ sym (take_more (fields_got fs w) k 0 (let l = length-map fs (λ (f : Field). field_got f w) in omega arith))
+    ∙ ap (λ x. take k (fields_got (fields_of os) w) ++ x ∷ []) (is ∙ ap (λ g. field_got g w) (same ∙ sym (field_at os k d lt)) ∙ sym (get_or-map (λ g. field_got g w) (fields_of os) k (field_of d) 0 more))
+    ∙ sym (take_more (fields_got (fields_of os) w) k 0 (let m = length-map (fields_of os) (λ (g : Field). field_got g w) in omega arith))
 
 -- a slot apart from each piece of the fields
 abbrev pub is_clear_of : ℕ → ℕ → List Field → Bool
