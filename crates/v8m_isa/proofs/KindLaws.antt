@@ -57,6 +57,36 @@ pub turn_lt : (x : ℕ) → x < 2 ^ 24 → turn x < 2 ^ 24
 unfolding turn
 turn_lt x lt = omega arith
 
+-- the parts of bits that were turned
+pub record Turned (x : ℕ) : Type 0 where
+  pub sign : turn x / 2 ^ 23 % 2 ≡ x / 2 ^ 23 % 2
+  pub second : turn x / 2 ^ 22 % 2 ≡ not_xor (x / 2 ^ 22 % 2) (x / 2 ^ 23 % 2)
+  pub third : turn x / 2 ^ 21 % 2 ≡ not_xor (x / 2 ^ 21 % 2) (x / 2 ^ 23 % 2)
+  pub high : turn x / 2 ^ 11 % 2 ^ 10 ≡ x / 2 ^ 11 % 2 ^ 10
+  pub low : turn x % 2 ^ 11 ≡ x % 2 ^ 11
+
+made_parts : (s i j r : ℕ) → s < 2 → i < 2 → j < 2 → r < 2 ^ 21 → (made s i j r / 2 ^ 23 % 2 ≡ s) × (made s i j r / 2 ^ 22 % 2 ≡ i) × (made s i j r / 2 ^ 21 % 2 ≡ j) × (made s i j r / 2 ^ 11 % 2 ^ 10 ≡ r / 2 ^ 11) × (made s i j r % 2 ^ 11 ≡ r % 2 ^ 11)
+made_parts s i j r ls li lj lr = (omega arith, omega arith, omega arith, omega arith, omega arith)
+
+pub turned_parts : (x : ℕ) → x < 2 ^ 24 → Turned x
+turned_parts x lt =
+    let s = x / 2 ^ 23 in
+    let i = x / 2 ^ 22 % 2 in
+    let j = x / 2 ^ 21 % 2 in
+    let r = x % 2 ^ 21 in
+    let e : made (x / 2 ^ 23) (x / 2 ^ 22 % 2) (x / 2 ^ 21 % 2) (x % 2 ^ 21) ≡ x = omega arith in
+    let ls : x / 2 ^ 23 < 2 = omega arith in
+    let same : x / 2 ^ 23 ≡ x / 2 ^ 23 % 2 = omega arith in
+    let t : turn x ≡ made s (not_xor i s) (not_xor j s) r = ap turn (sym e) ∙ turn_made s i j r ls (omega arith) (omega arith) (omega arith) in
+    let p = made_parts s (not_xor i s) (not_xor j s) r ls (omega arith) (omega arith) (omega arith) in
+    record {
+      sign = ap (λ y. y / 2 ^ 23 % 2) t ∙ p.0 ∙ same;
+      second = ap (λ y. y / 2 ^ 22 % 2) t ∙ p.1 ∙ ap (not_xor i) same;
+      third = ap (λ y. y / 2 ^ 21 % 2) t ∙ p.2 ∙ ap (not_xor j) same;
+      high = ap (λ y. y / 2 ^ 11 % 2 ^ 10) t ∙ p.3 ∙ omega arith;
+      low = ap (λ y. y % 2 ^ 11) t ∙ p.4 ∙ omega arith;
+    }
+
 extend_half : (v : ℕ) → (eqb (v % 2) 0 && (ltb v (2 ^ 24) || leb (2 ^ 32 - 2 ^ 24) v && ltb v (2 ^ 32))) ≡ true → sign_extend 25 (2 * (v / 2 % 2 ^ 24)) ≡ v
 extend_half v h = grind (arith, nat_tests)
 

@@ -13,10 +13,26 @@ use Rattle.v8m_isa.specs.declared.table.Opcode.{Opcode}
 use Rattle.v8m_isa.specs.declared.table.Opcode.TheVariants as op
 use Rattle.v8m_isa.specs.declared.operand.TheConstants.{BLANK, CONDITION}
 use Rattle.v8m_isa.specs.Form.{Row, got_all, number_of, takes, field_takes, field_of, fields_got, all_taken, is_kept, row_takes, all_in_word, word_of, row_size, row_code, word_in, fits}
-use Rattle.v8m_isa.specs.Table.{opcodes, row_of, opcode_of, numbers_of, instr_of, in_range_of, size_of, code_of, Decoded, read_by, or_else, first_of, decode_of, IsReadAs}
+use Rattle.v8m_isa.specs.Table.{opcodes, row_of, opcode_of, numbers_of, instr_of, Decoded, read_by, or_else, first_of, decode_of}
 use Rattle.v8m_isa.specs.Choice.{Choice, none, only, first_is, second_is, chosen, choices}
 use Rattle.v8m_isa.proofs.PieceLaws.{and_parts, or_parts, slot, slot_or, above, got_all-show}
 use Rattle.v8m_isa.proofs.RowLaws.{is_clear_of, are_sound, slot-word_of, fields_got-word_of, word_of_lt}
+
+-- an instruction's range, size and halfwords by its row
+unfoldable pub taken_of : Instr → Bool
+taken_of i = row_takes (row_of (opcode_of i)) (numbers_of i)
+
+unfoldable pub row_size_of : Instr → ℕ
+row_size_of i = row_size (row_of (opcode_of i))
+
+unfoldable pub row_code_of : Instr → Code
+row_code_of i = row_code (row_of (opcode_of i)) (numbers_of i)
+
+pub record IsRowOf (first second : ℕ) (i : Instr) (size : ℕ) : Type 0 where
+  pub in_range : taken_of i ≡ true
+  pub has_size : (row_code_of i).size ≡ size
+  pub has_first : (row_code_of i).first ≡ first
+  pub has_second : size ≡ 4 → (row_code_of i).second ≡ second
 
 -- rows by their places in the manual's order
 abbrev pub number : Opcode → ℕ
@@ -113,8 +129,8 @@ unfolding row_of field_of choices
 table_is_good op.Mov = refl
 table_is_good _ = refl
 
-record IsGood (r : Row) (n : ℕ) : Type 0 where
-  sound : are_sound r.base r.fields ≡ true
+pub record IsGood (r : Row) (n : ℕ) : Type 0 where
+  pub sound : are_sound r.base r.fields ≡ true
   base : r.base < 2 ^ 32
   in_word : all_in_word r.fields ≡ true
   low : (r.wide || (is_clear_of 0 16 r.fields && eqb (slot 0 16 r.base) 0)) ≡ true
@@ -132,7 +148,7 @@ good_parts r n h =
     let f = and_parts (is_clear_of 27 5 r.fields) _ e.1 in
     record { sound = a.0; base = (let t = b.0 in grind (arith, nat_tests)); in_word = c.0; low = e.0; top = f.0; top_of = f.1; reach = d.1 }
 
-good_row : (o : Opcode) → IsGood (row_of o) (number o)
+pub good_row : (o : Opcode) → IsGood (row_of o) (number o)
 good_row o = good_parts (row_of o) (number o) (table_is_good o)
 
 -- the word that is held against a row, by its halfwords
@@ -421,10 +437,10 @@ instr_back (Tta d n) = refl
 instr_back (Ttat d n) = refl
 
 abbrev decoded : Instr → Decoded
-decoded i = record { instr = i; size = size_of i }
+decoded i = record { instr = i; size = row_size_of i }
 
-read_own : (i : Instr) (b : ℕ) → in_range_of i ≡ true → (size_of i ≡ 2) ⊎ (b ≡ (code_of i).second) → read_by (opcode_of i) (code_of i).first b ≡ Some (decoded i)
-unfolding in_range_of size_of code_of
+read_own : (i : Instr) (b : ℕ) → taken_of i ≡ true → (row_size_of i ≡ 2) ⊎ (b ≡ (row_code_of i).second) → read_by (opcode_of i) (row_code_of i).first b ≡ Some (decoded i)
+unfolding taken_of row_size_of row_code_of
 read_own i b h s =
     let o = opcode_of i in
     let r = row_of (opcode_of i) in
@@ -437,12 +453,12 @@ read_own i b h s =
     ∙ ap (λ j. Some (record { instr = j; size = row_size r })) (instr_back i)
 
 -- an instruction's halfwords are read as the instruction, with any second one where it has one halfword
-pub decode-code_of : (i : Instr) (b : ℕ) → in_range_of i ≡ true → b < 2 ^ 16 → (size_of i ≡ 2) ⊎ (b ≡ (code_of i).second) → decode_of (code_of i).first b ≡ Some (record { instr = i; size = size_of i })
+pub decode-code_of : (i : Instr) (b : ℕ) → taken_of i ≡ true → b < 2 ^ 16 → (row_size_of i ≡ 2) ⊎ (b ≡ (row_code_of i).second) → decode_of (row_code_of i).first b ≡ Some (record { instr = i; size = row_size_of i })
 unfolding decode_of
 decode-code_of i b h lb s =
     let own = read_own i b h s in
-    first_found opcodes (opcode_of i) (code_of i).first b (decoded i)
-    (λ o e q. some_same o (opcode_of i) (sym (read_chosen o (code_of i).first b e lb q) ∙ read_chosen (opcode_of i) (code_of i).first b (decoded i) lb own))
+    first_found opcodes (opcode_of i) (row_code_of i).first b (decoded i)
+    (λ o e q. some_same o (opcode_of i) (sym (read_chosen o (row_code_of i).first b e lb q) ∙ read_chosen (opcode_of i) (row_code_of i).first b (decoded i) lb own))
     own (all_there (opcode_of i))
 
 -- the numbers that a row takes are those of its instruction
@@ -553,8 +569,8 @@ four_is_wide : (t : Bool) → ◌≡◌ {A = ℕ} (cond t 4 2) 4 → t ≡ true
 four_is_wide true h = refl
 four_is_wide false h = absurd (omega arith)
 
-made_back : (o : Opcode) (a b : ℕ) → b < 2 ^ 16 → Fits (row_of o) (word_by o a b) → IsReadAs a b (instr_of o (numbers_by o a b)) (row_size (row_of o))
-unfolding in_range_of code_of size_of
+made_back : (o : Opcode) (a b : ℕ) → b < 2 ^ 16 → Fits (row_of o) (word_by o a b) → IsRowOf a b (instr_of o (numbers_by o a b)) (row_size (row_of o))
+unfolding taken_of row_code_of row_size_of
 made_back o a b lb f =
     let r = row_of o in
     let i = instr_of o (numbers_by o a b) in
@@ -573,40 +589,40 @@ made_back o a b lb f =
     }
 
 -- what halfwords are read as has these halfwords
-pub code_of-decode : (a b : ℕ) (d : Decoded) → b < 2 ^ 16 → decode_of a b ≡ Some d → IsReadAs a b d.instr d.size
+pub code_of-decode : (a b : ℕ) (d : Decoded) → b < 2 ^ 16 → decode_of a b ≡ Some d → IsRowOf a b d.instr d.size
 unfolding decode_of
 code_of-decode a b d lb e =
     let s = first_some opcodes a b d e in
     let t = read_some s.0 a b d s.1 in
-    subst (λ (x : Decoded). IsReadAs a b x.instr x.size) t.1 (made_back s.0 a b lb (fits_parts (row_of s.0) (word_by s.0 a b) t.0))
+    subst (λ (x : Decoded). IsRowOf a b x.instr x.size) t.1 (made_back s.0 a b lb (fits_parts (row_of s.0) (word_by s.0 a b) t.0))
 
 -- sizes, and the halfwords' bounds
 two_or_four : (t : Bool) → ◌≡◌ {A = ℕ} (cond t 4 2) 2 ⊎ ◌≡◌ {A = ℕ} (cond t 4 2) 4
 two_or_four true = inr refl
 two_or_four false = inl refl
 
-pub size_of_cases : (i : Instr) → (size_of i ≡ 2) ⊎ (size_of i ≡ 4)
-unfolding size_of
+pub size_of_cases : (i : Instr) → (row_size_of i ≡ 2) ⊎ (row_size_of i ≡ 4)
+unfolding row_size_of
 size_of_cases i = two_or_four (row_of (opcode_of i)).wide
 
-pub code_of_size : (i : Instr) → (code_of i).size ≡ size_of i
-unfolding code_of size_of
+pub code_of_size : (i : Instr) → (row_code_of i).size ≡ row_size_of i
+unfolding row_code_of row_size_of
 code_of_size i = refl
 
-pub code_of_first : (i : Instr) → (code_of i).first < 2 ^ 16
-unfolding code_of
+pub code_of_first : (i : Instr) → (row_code_of i).first < 2 ^ 16
+unfolding row_code_of
 code_of_first i = let g = good_row (opcode_of i) in let lt = word_of_lt (row_of (opcode_of i)) (numbers_of i) g.base g.in_word in omega arith
 
-pub code_of_second : (i : Instr) → (code_of i).second < 2 ^ 16
-unfolding code_of
+pub code_of_second : (i : Instr) → (row_code_of i).second < 2 ^ 16
+unfolding row_code_of
 code_of_second i = omega arith
 
 two_is_narrow : (t : Bool) → ◌≡◌ {A = ℕ} (cond t 4 2) 2 → t ≡ false
 two_is_narrow true h = absurd (omega arith)
 two_is_narrow false h = refl
 
-pub code_of_narrow : (i : Instr) → size_of i ≡ 2 → (code_of i).second ≡ 0
-unfolding code_of size_of
+pub code_of_narrow : (i : Instr) → row_size_of i ≡ 2 → (row_code_of i).second ≡ 0
+unfolding row_code_of row_size_of
 code_of_narrow i h = low_zero (row_of (opcode_of i)) (number (opcode_of i)) (numbers_of i) (good_row (opcode_of i)) (two_is_narrow (row_of (opcode_of i)).wide h)
 
 -- the top five bits of the first halfword tell the size

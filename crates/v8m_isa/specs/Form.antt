@@ -12,6 +12,7 @@ use Rattle.v8m_isa.specs.declared.form.Rule.TheVariants.{Free, SpFromSp}
 use Rattle.v8m_isa.specs.declared.operand.Operand.{Operand}
 use Rattle.v8m_isa.specs.declared.operand.Operand.TheVariants as operand
 use Rattle.v8m_isa.specs.declared.operand.TheConstants as fields
+use Rattle.v8m_isa.specs.Fields.{is_register, is_register_or_sp, is_condition, is_number, is_special, is_list, is_offset, is_sp_from_sp}
 
 -- the bits that a piece has of a field's, put into the word, and got from it
 abbrev pub put : Piece → ℕ → ℕ
@@ -52,14 +53,14 @@ sign_extend n x = cond (ltb x (2 ^ (n - 1))) x (x + (2 ^ 32 - 2 ^ n))
 
 -- which numbers a field of so many bits takes
 unfoldable pub takes : Kind → ℕ → ℕ → Bool
-takes kind.Register n v = ltb v 13 || eqb v 14
-takes kind.Base n v = ltb v 15
-takes kind.Condition n v = ltb v 14
-takes kind.Number n v = ltb v (2 ^ n)
-takes kind.Special n v = eqb v 0 || (eqb v 8 || (eqb v 9 || (eqb v 10 || (eqb v 11 || (eqb v 136 || eqb v 137)))))
-takes kind.List n v = ltb v (2 ^ 15) && (eqb (v / 2 ^ 13 % 2) 0 && leb 2 (count_ones v))
-takes kind.Near n v = eqb (v % 2) 0 && (ltb v (2 ^ 20) || leb (2 ^ 32 - 2 ^ 20) v && ltb v (2 ^ 32))
-takes kind.Far n v = eqb (v % 2) 0 && (ltb v (2 ^ 24) || leb (2 ^ 32 - 2 ^ 24) v && ltb v (2 ^ 32))
+takes kind.Register n v = is_register v
+takes kind.Base n v = is_register_or_sp v
+takes kind.Condition n v = is_condition v
+takes kind.Number n v = is_number n v
+takes kind.Special n v = is_special v
+takes kind.List n v = is_list v
+takes kind.Near n v = is_offset 20 v
+takes kind.Far n v = is_offset 24 v
 
 -- the bits of a number in its field, and the number that bits show there
 unfoldable pub bits_of : Kind → ℕ → ℕ
@@ -113,7 +114,7 @@ unfoldable pub is_kept : Rule → List ℕ → Bool
 is_kept Free vs = true
 is_kept SpFromSp [] = true
 is_kept SpFromSp (d ∷ []) = true
-is_kept SpFromSp (d ∷ (n ∷ vs)) = not (eqb d 13) || eqb n 13
+is_kept SpFromSp (d ∷ (n ∷ vs)) = is_sp_from_sp d n
 
 -- where a field stands, and what it takes
 unfoldable pub field_of : Operand → Field

@@ -8,7 +8,6 @@ use crate::instr::{Code, Instr};
 use crate::table::{Opcode, form_of, instr_of, parts_of};
 
 /// Whether each field of an instruction is in its row's range.
-#[tactic(auto, unfolding(crate::specs::Table::in_range_of))]
 pub fn in_range(i: &Instr) -> bool
     ensures { result ≡ in_range_of i.now }
 {
@@ -27,8 +26,8 @@ pub fn encode(i: &Instr) -> Code
 }
 
 // The halfwords of an instruction.
-#[tactic(auto, unfolding(crate::specs::Table::code_of))]
 fn code(i: &Instr) -> Code
+    requires { IsTrue (in_range_of i.now) }
     ensures { result ≡ code_of i.now }
 {
     let (opcode, numbers) = parts_of(i);
