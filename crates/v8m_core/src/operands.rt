@@ -26,7 +26,7 @@ fn put(d: u32, v: u32) -> Effect
 }
 
 /// Moves and extensions.
-#[tactic(auto, unfolding(v8m_isa::specs::Table::in_range_of, v8m_isa::specs::Table::row_of, v8m_isa::specs::Table::opcode_of, v8m_isa::specs::Table::numbers_of, v8m_isa::specs::Form::all_taken, v8m_isa::specs::Form::takes))]
+#[tactic(auto, unfolding(v8m_isa::specs::Table::in_range_of))]
 fn moved(cpu: &Cpu, instr: &Instr) -> Option<Effect>
     requires { IsTrue (in_range_of instr.now) }
     ensures value { result ≡ moved instr.now cpu.now }
@@ -34,6 +34,7 @@ fn moved(cpu: &Cpu, instr: &Instr) -> Option<Effect>
 {
     let r = &cpu.regs;
     match *instr {
+        Instr::Nop => Some(Effect::Pass),
         Instr::Sg => Some(Effect::Pass),
         Instr::Mov { d, m } => Some(put(d, r.get(m))),
         Instr::Movw { d, i } => Some(put(d, i)),
@@ -41,12 +42,16 @@ fn moved(cpu: &Cpu, instr: &Instr) -> Option<Effect>
             let low = r.get(d) % 0x1_0000;
             Some(put(d, 0x1_0000 * i + low))
         }
+        Instr::Sxtb { d, m } => Some(put(d, signed_byte(r.get(m) % 0x100))),
+        Instr::Sxth { d, m } => Some(put(d, signed_half(r.get(m) % 0x1_0000))),
+        Instr::Uxtb { d, m } => Some(put(d, r.get(m) % 0x100)),
+        Instr::Uxth { d, m } => Some(put(d, r.get(m) % 0x1_0000)),
         _ => None,
     }
 }
 
 /// Arithmetic.
-#[tactic(auto, unfolding(v8m_isa::specs::Table::in_range_of, v8m_isa::specs::Table::row_of, v8m_isa::specs::Table::opcode_of, v8m_isa::specs::Table::numbers_of, v8m_isa::specs::Form::all_taken, v8m_isa::specs::Form::takes))]
+#[tactic(auto, unfolding(v8m_isa::specs::Table::in_range_of))]
 fn computed(cpu: &Cpu, instr: &Instr) -> Option<Effect>
     requires { IsTrue (in_range_of instr.now) }
     ensures value { result ≡ computed instr.now cpu.now }
@@ -54,12 +59,28 @@ fn computed(cpu: &Cpu, instr: &Instr) -> Option<Effect>
 {
     let r = &cpu.regs;
     match *instr {
+        Instr::Addw { d, n, i } => Some(put(d, r.get(n).wrapping_add(i))),
+        Instr::Subw { d, n, i } => Some(put(d, r.get(n).wrapping_sub(i))),
+        Instr::Add { d, n, m } => Some(put(d, r.get(n).wrapping_add(r.get(m)))),
+        Instr::Sub { d, n, m } => Some(put(d, r.get(n).wrapping_sub(r.get(m)))),
+        Instr::Rsb { d, n, m } => Some(put(d, r.get(m).wrapping_sub(r.get(n)))),
+        Instr::Cmp { n, m } => {
+            let nzcvq = compared(r.get(n), r.get(m), cpu.nzcvq);
+            Some(Effect::Flags { nzcvq })
+        }
+        Instr::Mul { d, n, m } => Some(put(d, r.get(n).wrapping_mul(r.get(m)))),
+        Instr::Mls { d, n, m, a } => {
+            let product = r.get(n).wrapping_mul(r.get(m));
+            Some(put(d, r.get(a).wrapping_sub(product)))
+        }
+        Instr::Sdiv { d, n, m } => Some(put(d, signed_quotient(r.get(n), r.get(m)))),
+        Instr::Udiv { d, n, m } => Some(put(d, quotient(r.get(n), r.get(m)))),
         _ => None,
     }
 }
 
 /// Bits, and shifts by the low byte of m.
-#[tactic(auto, unfolding(v8m_isa::specs::Table::in_range_of, v8m_isa::specs::Table::row_of, v8m_isa::specs::Table::opcode_of, v8m_isa::specs::Table::numbers_of, v8m_isa::specs::Form::all_taken, v8m_isa::specs::Form::takes))]
+#[tactic(auto, unfolding(v8m_isa::specs::Table::in_range_of))]
 fn bitwise(cpu: &Cpu, instr: &Instr) -> Option<Effect>
     requires { IsTrue (in_range_of instr.now) }
     ensures value { result ≡ bitwise instr.now cpu.now }
@@ -67,7 +88,14 @@ fn bitwise(cpu: &Cpu, instr: &Instr) -> Option<Effect>
 {
     let r = &cpu.regs;
     match *instr {
+        Instr::And { d, n, m } => Some(put(d, r.get(n) & r.get(m))),
         Instr::Bic { d, n, m } => Some(put(d, r.get(n) & !r.get(m))),
+        Instr::Orr { d, n, m } => Some(put(d, r.get(n) | r.get(m))),
+        Instr::Eor { d, n, m } => Some(put(d, r.get(n) ^ r.get(m))),
+        Instr::Mvn { d, m } => Some(put(d, !r.get(m))),
+        Instr::Lsl { d, n, m } => Some(put(d, shifted_left(r.get(n), r.get(m) % 0x100))),
+        Instr::Lsr { d, n, m } => Some(put(d, shifted_right(r.get(n), r.get(m) % 0x100))),
+        Instr::Asr { d, n, m } => Some(put(d, shifted_with_sign(r.get(n), r.get(m) % 0x100))),
         _ => None,
     }
 }
@@ -100,7 +128,7 @@ fn store(cpu: &Cpu, n: u32, i: u32, size: u8, v: u32) -> Effect
 }
 
 /// Loads and stores.
-#[tactic(auto, unfolding(v8m_isa::specs::Table::in_range_of, v8m_isa::specs::Table::row_of, v8m_isa::specs::Table::opcode_of, v8m_isa::specs::Table::numbers_of, v8m_isa::specs::Form::all_taken, v8m_isa::specs::Form::takes))]
+#[tactic(auto, unfolding(v8m_isa::specs::Table::in_range_of))]
 fn accessed(cpu: &Cpu, instr: &Instr) -> Option<Effect>
     requires { IsTrue (in_range_of instr.now) }
     ensures value { result ≡ accessed instr.now cpu.now }
@@ -108,7 +136,15 @@ fn accessed(cpu: &Cpu, instr: &Instr) -> Option<Effect>
 {
     let effect = match *instr {
         Instr::Ldr { t, n, i } => load(cpu, t, n, i, 4),
+        Instr::Ldrb { t, n, i } => load(cpu, t, n, i, 1),
+        Instr::Ldrh { t, n, i } => load(cpu, t, n, i, 2),
+        Instr::Ldrsb { t, n, i } => load_signed(cpu, t, n, i, 1),
+        Instr::Ldrsh { t, n, i } => load_signed(cpu, t, n, i, 2),
         Instr::Str { t, n, i } => store(cpu, n, i, 4, cpu.regs.get(t)),
+        Instr::Strb { t, n, i } => store(cpu, n, i, 1, cpu.regs.get(t) % 0x100),
+        Instr::Strh { t, n, i } => store(cpu, n, i, 2, cpu.regs.get(t) % 0x1_0000),
+        Instr::Stmdb { list } => Effect::Push { list },
+        Instr::Ldmia { list } => Effect::Pop { list },
         _ => return None,
     };
     Some(effect)
@@ -137,7 +173,7 @@ fn branch_target(cpu: &Cpu, off: u32) -> u32
 }
 
 /// Branches.
-#[tactic(auto, unfolding(v8m_isa::specs::Table::in_range_of, v8m_isa::specs::Table::row_of, v8m_isa::specs::Table::opcode_of, v8m_isa::specs::Table::numbers_of, v8m_isa::specs::Form::all_taken, v8m_isa::specs::Form::takes))]
+#[tactic(auto, unfolding(v8m_isa::specs::Table::in_range_of))]
 fn branched(cpu: &Cpu, instr: &Instr) -> Option<Effect>
     requires range { IsTrue (in_range_of instr.now) }
     requires room { cpu.now.pc + 4 < 2 ^ 32 }
@@ -146,12 +182,19 @@ fn branched(cpu: &Cpu, instr: &Instr) -> Option<Effect>
 {
     let r = &cpu.regs;
     match *instr {
+        Instr::Bx { m } => Some(Effect::Bx { v: r.get(m) }),
         Instr::Bxns { m } => Some(Effect::Bxns { v: r.get(m) }),
+        Instr::Blxns { m } => Some(Effect::Blxns { v: r.get(m) }),
         Instr::Udf { i } => Some(Effect::Stop(udf_stop(i))),
         Instr::B { off } => {
             let at = branch_target(cpu, off);
             Some(Effect::Jump { at })
         }
+        Instr::Bl { off } => {
+            let at = branch_target(cpu, off);
+            Some(Effect::Call { at })
+        }
+        Instr::Bc { c, off } => Some(branch_if(cpu, c, off)),
         _ => None,
     }
 }
@@ -185,7 +228,7 @@ fn special_of(cpu: &Cpu, k: u32) -> u32
 }
 
 /// Special registers, and the answers of TT.
-#[tactic(auto, unfolding(v8m_isa::specs::Table::in_range_of, v8m_isa::specs::Table::row_of, v8m_isa::specs::Table::opcode_of, v8m_isa::specs::Table::numbers_of, v8m_isa::specs::Form::all_taken, v8m_isa::specs::Form::takes))]
+#[tactic(auto, unfolding(v8m_isa::specs::Table::in_range_of))]
 fn named(cpu: &Cpu, instr: &Instr) -> Option<Effect>
     requires { IsTrue (in_range_of instr.now) }
     ensures value { result ≡ named instr.now cpu.now }
@@ -194,6 +237,11 @@ fn named(cpu: &Cpu, instr: &Instr) -> Option<Effect>
     let r = &cpu.regs;
     match *instr {
         Instr::Msr { s, n } => Some(Effect::Special { k: s, v: r.get(n) }),
+        Instr::Mrs { d, s } => Some(put(d, special_of(cpu, s))),
+        Instr::Tt { d, n } => Some(put(d, target(r.get(n)))),
+        Instr::Ttt { d, n } => Some(put(d, target(r.get(n)))),
+        Instr::Tta { d, n } => Some(put(d, target(r.get(n)))),
+        Instr::Ttat { d, n } => Some(put(d, target(r.get(n)))),
         _ => None,
     }
 }
