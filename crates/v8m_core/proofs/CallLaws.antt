@@ -1,8 +1,7 @@
 -- Words that are written and read again, and a call of the function return address.
-use Rattle.std.proofs.Common.{◌≡◌, ℕ, ◌+◌, ◌-◌, ◌%◌, ◌<◌, ◌≤◌, ◌⊎◌, Bool, true, false, cond, List, length, refl, sym, ap, ◌∙◌, subst, ⊎_elim, inl, inr, arith, Option, Some, None}
+use Rattle.std.proofs.Common.{◌≡◌, ℕ, ◌+◌, ◌-◌, ◌%◌, ◌<◌, ◌≤◌, ◌⊎◌, Bool, true, false, cond, List, refl, sym, ap, ◌∙◌, subst, ⊎_elim, inl, inr, arith, Some, None}
 use Rattle.std.specs.Prelude.{eqb, not, ◌&&◌, ◌||◌}
 use Rattle.std.proofs.lemmas.Bool.Decides.{nat_tests}
-use Rattle.cm_base.specs.declared.stop.Stop.{Stop}
 use Rattle.cm_base.specs.declared.stop.Stop.TheVariants as stop
 use Rattle.ns_types.specs.declared.state.Cpu.{Cpu}
 use Rattle.ns_types.specs.declared.state.Side.TheVariants.{Secure}
@@ -11,7 +10,7 @@ use Rattle.ns_types.specs.Platform.{in_row, lies_in, is_readable, is_writable, i
 use Rattle.ns_types.specs.Memory.{IsWhole, word_at, put_word, load, store}
 use Rattle.v8m_core.specs.Values.{difference32}
 use Rattle.v8m_core.specs.Lists.{next}
-use Rattle.v8m_core.specs.Step.{Done, went, stopped, unless, or_stop, returned, return_stop, return_to, call_stop, called, only_stopped}
+use Rattle.v8m_core.specs.Step.{went, stopped, unless, or_stop, returned, return_stop, return_to, call_stop, called, only_stopped}
 use Rattle.v8m_core.proofs.Words.{same_word, other_word, length-put_word}
 
 -- where a word can be written: Non-secure RAM, or Secure RAM
@@ -129,6 +128,7 @@ room c h =
     left_of : (a b : Bool) → (a && b) ≡ true → a ≡ true
     left_of true b h = refl
     left_of false b h = cc
+
     right_of : (a b : Bool) → (a && b) ≡ true → b ≡ true
     right_of true b h = h
     right_of false b h = cc

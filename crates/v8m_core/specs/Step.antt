@@ -1,5 +1,5 @@
 -- One step of the machine: what is fetched, what an instruction does, and the gates between Secure and Non-secure state.
-use Rattle.std.specs.Prelude.{ℕ, ◌+◌, ◌-◌, ◌*◌, ◌/◌, ◌%◌, Bool, cond, ◌&&◌, not, eqb, ltb, List, [], ◌∷◌, slice_index, Option, Some, None, bit_and, bit_or, bit_xor}
+use Rattle.std.specs.Prelude.{ℕ, ◌+◌, ◌-◌, ◌/◌, ◌%◌, Bool, cond, ◌&&◌, not, eqb, ltb, List, [], ◌∷◌, slice_index, Option, Some, None}
 use Rattle.cm_base.specs.declared.stop.Stop.{Stop}
 use Rattle.cm_base.specs.declared.stop.Stop.TheVariants as stop
 use Rattle.v8m_isa.specs.declared.instr.Instr.{Instr}
@@ -10,7 +10,7 @@ use Rattle.ns_types.specs.declared.state.Cpu.{Cpu}
 use Rattle.ns_types.specs.declared.state.Side.TheVariants.{Secure, NonSecure, Stopped}
 use Rattle.ns_types.specs.declared.turn.View.{View}
 use Rattle.ns_types.specs.declared.turn.Turn.{Turn}
-use Rattle.ns_types.specs.State.{get_of, set_of, State}
+use Rattle.ns_types.specs.State.{set_of, State}
 use Rattle.ns_types.specs.Platform.{row, in_row, lies_in, is_readable, is_writable, is_in_rom, aligned}
 use Rattle.ns_types.specs.Memory.{half_at, load, store}
 use Rattle.ns_types.specs.Boundary.{function_return, goes_of, acted}

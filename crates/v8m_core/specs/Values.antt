@@ -1,5 +1,5 @@
 -- What instructions compute, on numbers of 32 bits and on the flags (DDI0553, shared functions of the pseudocode).
-use Rattle.std.specs.Prelude.{ℕ, ◌+◌, ◌-◌, ◌*◌, ◌/◌, ◌%◌, ◌^◌, Bool, true, false, cond, ◌&&◌, ◌||◌, not, eqb, ltb, leb}
+use Rattle.std.specs.Prelude.{ℕ, ◌+◌, ◌-◌, ◌*◌, ◌/◌, ◌%◌, ◌^◌, Bool, cond, ◌&&◌, not, eqb, ltb, leb}
 use Rattle.v8m_mem.specs.Target.{flag}
 
 abbrev pub sum32 : ℕ → ℕ → ℕ

@@ -72,7 +72,11 @@ pub fn quotient(a: u32, b: u32) -> u32
 fn magnitude(a: u32) -> u32
     ensures { result ≡ magnitude a }
 {
-    if is_negative(a) { 0u32.wrapping_sub(a) } else { a }
+    if is_negative(a) {
+        0u32.wrapping_sub(a)
+    } else {
+        a
+    }
 }
 
 /// SDIV.
