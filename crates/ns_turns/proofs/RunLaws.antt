@@ -12,7 +12,7 @@ use Rattle.v8m_core.specs.Step.{Done, went, step_of, turn_of}
 use Rattle.v8m_core.specs.Code.{Comes}
 use Rattle.v8m_core.proofs.Runs.{stays}
 use Rattle.ns_turns.specs.Run.{event_of, ends, after, next_of, run_of}
-use Rattle.ns_turns.specs.Prefix.{IsFront}
+use Rattle.ns_types.specs.Prefix.{IsFront}
 
 -- one step in Secure state
 pub run_step : (rom : List ℕ) (n : ℕ) (ts : List Turn) (s : State) (d : Done) → s.cpu.side ≡ Secure → step_of rom s ≡ d → run_of rom (suc n) ts s ≡ after d (run_of rom n ts d.state)

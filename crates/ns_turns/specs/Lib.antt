@@ -1,4 +1,3 @@
 pub mod Run
-pub mod Prefix
 pub mod Refines
 pub mod Advance
