@@ -1,3 +1,4 @@
 pub mod Run
 pub mod Refines
 pub mod Advance
+pub mod Moments
