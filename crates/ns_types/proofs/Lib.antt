@@ -1,3 +1,5 @@
 mod Values
 pub mod Ranges
 pub mod BoundLaws
+pub mod MarkLaws
+pub mod ShowLaws

@@ -12,3 +12,4 @@ pub mod Show
 pub mod Ram
 pub mod Sight
 pub mod Declares
+pub mod Marks
