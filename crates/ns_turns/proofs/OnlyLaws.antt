@@ -23,13 +23,13 @@ append_none [] = refl
 append_none (x ∷ xs) = ap (λ l. x ∷ l) (append_none xs)
 
 -- whether a run is spent
-is_spent : (e : End) → (e ≡ end.Spent) ⊎ (e ≢ end.Spent)
+pub is_spent : (e : End) → (e ≡ end.Spent) ⊎ (e ≢ end.Spent)
 is_spent end.Spent = inl refl
 is_spent end.Stopped = inr (λ h. cc)
 is_spent end.Waiting = inr (λ h. cc)
 
 -- a front of a list with one more event is a front of the list, or all
-front_or_all : (xs ys : List Event) (y : Event) → IsFront xs (ys ++ y ∷ []) → IsFront xs ys ⊎ (xs ≡ ys ++ y ∷ [])
+pub front_or_all : (xs ys : List Event) (y : Event) → IsFront xs (ys ++ y ∷ []) → IsFront xs ys ⊎ (xs ≡ ys ++ y ∷ [])
 front_or_all [] ys y f = inl (ys, refl)
 front_or_all (x ∷ []) [] y f = inr (let e : x ∷ f.0 ≡ y ∷ [] = f.1 in let h : x ≡ y = cc in ap (λ z. z ∷ []) h)
 front_or_all (x ∷ x' ∷ xs) [] y f = absurd (let e : x ∷ x' ∷ (xs ++ f.0) ≡ y ∷ [] = f.1 in cc)
