@@ -14,9 +14,10 @@ use Rattle.ns_types.specs.declared.turn.Start.{Start}
 use Rattle.ns_types.specs.CRun.{Run}
 use Rattle.v8m_core.specs.Reset.{reset_of}
 use Rattle.ns_turns.specs.Run.{machine_run}
+use Rattle.ns_turns.specs.GoesOn.{GoesOn}
 use Rattle.ns_types.specs.Prefix.{IsFront}
 use Rattle.ns_turns.specs.Refines.{seen_of, Same, OutOfRoom, room, Refines, is_clean_event, is_clean, OnlyShows, Only}
-use Rattle.ns_turns.proofs.RunLaws.{GoesOn, run_goes}
+use Rattle.ns_turns.proofs.RunLaws.{run_goes}
 
 append_none : {X : Type 0} (xs : List X) → xs ++ [] ≡ xs
 append_none [] = refl

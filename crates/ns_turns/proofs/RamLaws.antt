@@ -1,6 +1,7 @@
 -- Non-secure RAM at each hand-over is what the start, the turns and the events before make of it.
-use Rattle.std.proofs.Common.{◌≡◌, ℕ, zero, suc, ◌-◌, Bool, true, false, cond, map, List, [], ◌∷◌, ◌++◌, refl, sym, ap, ◌∙◌, subst, arith, Option, Some, None}
-use Rattle.std.specs.Prelude.{not}
+use Rattle.std.proofs.Common.{◌≡◌, ℕ, zero, suc, ◌+◌, ◌-◌, Bool, true, false, cond, map, List, [], ◌∷◌, ◌++◌, refl, sym, ap, ◌∙◌, subst, arith, Option, Some, None}
+use Rattle.std.specs.Prelude.{not, eqb, ◌&&◌}
+use Rattle.std.proofs.lemmas.Bool.Decides.{nat_tests}
 use Rattle.cm_base.specs.declared.stop.Stop.{Stop}
 use Rattle.cm_base.specs.declared.stop.Stop.TheVariants as stop
 use Rattle.ns_types.specs.declared.goes.Goes.{Goes}
@@ -15,13 +16,14 @@ use Rattle.ns_types.specs.declared.turn.Item.{Item}
 use Rattle.ns_types.specs.declared.turn.Turn.{Turn}
 use Rattle.ns_types.specs.declared.turn.Start.{Start}
 use Rattle.ns_types.specs.State.{State}
-use Rattle.ns_types.specs.Platform.{row, aligned}
+use Rattle.ns_types.specs.Platform.{row, is_nonsecure, lies_in, aligned}
 use Rattle.ns_types.specs.Memory.{put_number, load}
 use Rattle.ns_types.specs.Boundary.{Acted, acted, acted_or, item_stop, with_item}
-use Rattle.ns_types.specs.Ram.{is_turn, crosses, with_items, Moved, crossed, ram_at}
+use Rattle.ns_types.specs.Ram.{is_turn, crosses, with_items, Moved, crossed, ram_at, AreSecure}
+use Rattle.ns_types.proofs.Crossings.{ram_same}
 use Rattle.v8m_core.specs.declared.stepped.Stepped.{Stepped}
 use Rattle.v8m_core.specs.declared.stepped.Stepped.TheVariants as what
-use Rattle.v8m_core.specs.Step.{Done, went, stopped, unless, gateway_at, goes_in, handed, entered, returned, return_stop, return_to, arrived, turned, step_of, turn_of}
+use Rattle.v8m_core.specs.Step.{Done, went, stopped, unless, fetched, is_gateway, gateway_at, goes_in, handed, entered, returned, return_stop, return_to, arrived, turned, step_of, turn_of}
 use Rattle.v8m_core.specs.Reset.{reset_of}
 use Rattle.v8m_core.proofs.Runs.{stays}
 use Rattle.ns_turns.specs.Run.{event_of, ends, after, next_of, run_of, machine_run}
@@ -53,7 +55,7 @@ moments_stopped rom zero ts s x side = refl
 moments_stopped rom (suc n) ts s x side =
     ap (λ y. next_of (λ e. []) (λ t rest. moments_of (turn_of rom t s) ++ moments rom n rest (turn_of rom t s).state) (moments_of (step_of rom s) ++ moments rom n ts (step_of rom s).state) y ts) side
 
-run_is_over : (rom : List ℕ) (n : ℕ) (ts : List Turn) (s : State) (x : Stop) → s.cpu.side ≡ Stopped x → run_of rom n ts s ≡ ends end.Stopped
+pub run_is_over : (rom : List ℕ) (n : ℕ) (ts : List Turn) (s : State) (x : Stop) → s.cpu.side ≡ Stopped x → run_of rom n ts s ≡ ends end.Stopped
 unfolding run_of
 run_is_over rom zero ts s x side = ap (λ y. next_of ends (λ t rest. ends end.Spent) (ends end.Spent) y ts) side
 run_is_over rom (suc n) ts s x side =
@@ -247,5 +249,13 @@ counts rom (suc n) ts s tell k = by (counts rom n) s.cpu.side refl ts tell
         ap (λ l. given_ram l k) (moments_stopped rom (suc n) us s x side)
         ∙ sym (ap (λ (y : Events). ram_at (gateway_at rom) y.list k us s.memory.ns_ram) (run_is_over rom (suc n) us s x side))
 
-pub knows_ram : (rom : List ℕ) (start : Start) (ts : List Turn) (n : ℕ) → AllTell rom n ts (reset_of rom start) → KnowsRam rom start ts n
-knows_ram rom start ts n tell = record { events = moments_events rom n ts (reset_of rom start); ram = counts rom n ts (reset_of rom start) tell }
+-- no gateway stands in Non-secure memory
+gateways_secure : (rom : List ℕ) → AreSecure (gateway_at rom)
+unfolding is_gateway
+gateways_secure rom = record { by = λ a h. let out : lies_in 3 a 4 ≡ false = grind (arith, nat_tests) in ap (λ b. cond (b && (eqb (fetched rom a) 59775 && eqb (fetched rom (a + 2)) 59775)) (Some a) None) out }
+
+pub knows_ram : (rom : List ℕ) (enters : ℕ → Option ℕ) → AreSecure enters → (start : Start) (ts : List Turn) (n : ℕ) → AllTell rom n ts (reset_of rom start) → KnowsRam rom enters start ts n
+knows_ram rom enters h start ts n tell = record {
+  events = moments_events rom n ts (reset_of rom start);
+  ram = λ k. counts rom n ts (reset_of rom start) tell k ∙ ram_same (gateway_at rom) enters (gateways_secure rom) h (machine_run rom start ts n).list k ts start.ns_ram;
+}

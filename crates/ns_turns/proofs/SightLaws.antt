@@ -27,9 +27,10 @@ use Rattle.ns_types.proofs.BoundLaws.{front_trans}
 use Rattle.v8m_mem.specs.Rows.{IsStart}
 use Rattle.v8m_core.specs.Reset.{reset_of}
 use Rattle.ns_turns.specs.Run.{machine_run}
+use Rattle.ns_turns.specs.GoesOn.{GoesOn}
 use Rattle.ns_turns.specs.Refines.{seen_of, Same, OutOfRoom, room, Refines}
 use Rattle.ns_turns.specs.TwoWorlds.{SameOutside, machine_plays, hand_overs, TwoWorlds, TellsAll}
-use Rattle.ns_turns.proofs.RunLaws.{GoesOn, run_goes}
+use Rattle.ns_turns.proofs.RunLaws.{run_goes}
 use Rattle.ns_turns.proofs.OnlyLaws.{front_or_all, is_spent}
 
 view_append : (xs ys : List Event) (k : ℕ) → k < given_count xs → view_at (xs ++ ys) k ≡ view_at xs k

@@ -1,4 +1,5 @@
 pub mod Run
+pub mod GoesOn
 pub mod Refines
 pub mod Advance
 pub mod Moments

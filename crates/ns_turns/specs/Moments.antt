@@ -8,7 +8,7 @@ use Rattle.ns_types.specs.State.{State}
 use Rattle.ns_types.specs.Ram.{ram_at}
 use Rattle.v8m_core.specs.declared.stepped.Stepped.{Stepped}
 use Rattle.v8m_core.specs.declared.stepped.Stepped.TheVariants as what
-use Rattle.v8m_core.specs.Step.{Done, gateway_at, step_of, turn_of}
+use Rattle.v8m_core.specs.Step.{Done, step_of, turn_of}
 use Rattle.v8m_core.specs.Reset.{reset_of}
 use Rattle.ns_turns.specs.Run.{event_of, next_of, machine_run}
 
@@ -64,6 +64,6 @@ AllTell rom (suc n) ts s =
     next_of (λ e. Unit {0}) (λ t rest. AllTell rom n rest (turn_of rom t s).state) (Tells rom s × AllTell rom n ts (step_of rom s).state) s.cpu.side ts
 
 -- The machine's Non-secure RAM at each hand-over of a run is what the start, the turns and the events before make of it.
-pub record KnowsRam (rom : List ℕ) (start : Start) (ts : List Turn) (n : ℕ) : Type 0 where
+pub record KnowsRam (rom : List ℕ) (enters : ℕ → Option ℕ) (start : Start) (ts : List Turn) (n : ℕ) : Type 0 where
   pub events : events_in (machine_moments rom start ts n) ≡ (machine_run rom start ts n).list
-  pub ram : (k : ℕ) → given_ram (machine_moments rom start ts n) k ≡ ram_at (gateway_at rom) (machine_run rom start ts n).list k ts start.ns_ram
+  pub ram : (k : ℕ) → given_ram (machine_moments rom start ts n) k ≡ ram_at enters (machine_run rom start ts n).list k ts start.ns_ram

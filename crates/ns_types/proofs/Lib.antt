@@ -3,3 +3,4 @@ pub mod Ranges
 pub mod BoundLaws
 pub mod MarkLaws
 pub mod ShowLaws
+pub mod Crossings

@@ -1,12 +1,12 @@
 -- Non-secure RAM at each hand-over of a run, by the changes before it in order of time.
-use Rattle.std.specs.Prelude.{ℕ, zero, suc, ◌-◌, Bool, true, false, cond, not, List, [], ◌∷◌, Option, Some, None}
+use Rattle.std.specs.Prelude.{◌≡◌, ℕ, zero, suc, ◌-◌, Bool, true, false, cond, not, List, [], ◌∷◌, Option, Some, None}
 use Rattle.ns_types.specs.declared.goes.Goes.{Goes}
 use Rattle.ns_types.specs.declared.goes.Goes.TheVariants as goes
 use Rattle.ns_types.specs.declared.event.Event.{Event}
 use Rattle.ns_types.specs.declared.event.Event.TheVariants as event
 use Rattle.ns_types.specs.declared.turn.Item.{Item}
 use Rattle.ns_types.specs.declared.turn.Turn.{Turn}
-use Rattle.ns_types.specs.Platform.{row}
+use Rattle.ns_types.specs.Platform.{row, is_nonsecure}
 use Rattle.ns_types.specs.Memory.{put_number}
 use Rattle.ns_types.specs.Boundary.{goes_of, with_item}
 
@@ -45,3 +45,7 @@ ram_at enters (event.Wrote at size value ∷ es) k ts ram = ram_at enters es k t
 ram_at enters (event.Stopped stop ∷ es) k ts ram = ram_at enters es k ts ram
 ram_at enters (event.Given view ∷ es) zero ts ram = Some ram
 ram_at enters (event.Given view ∷ es) (suc k) ts ram = let m = crossed enters ts ram in ram_at enters es k m.turns m.ram
+
+-- no entry stands in Non-secure memory
+pub record AreSecure (enters : ℕ → Option ℕ) : Type 0 where
+  pub by : (a : ℕ) → is_nonsecure a ≡ true → enters a ≡ None
