@@ -53,10 +53,24 @@ module _ (enters : ℕ → Option ℕ) where
       ap (λ l. tracker_behind enters l first) (events_more ms m) ∙ behind_append (events_of ms) (m.event ∷ []) first ∙ ap (tracker_after enters m.event) at
 
   -- a stop shows the same with any mark
-  tracks_stop : (first now here : Tracker) (active : List Frame) (x : Stop) (w : World) → Follows enters first now here w → Tracks enters first active (stopped x w)
+  pub tracks_stop : (first now here : Tracker) (active : List Frame) (x : Stop) (w : World) → Follows enters first now here w → Tracks enters first active (stopped x w)
   tracks_stop first now here active x w f = record { by = told_more first now w.events (record { event = c.Stopped x; mark = mark_at 0 eight_zeros w }) f.told f.behind refl }
 
-  tracks_then : (first : Tracker) (active active' : List Frame) (o : Outcome) (f : ℕ → World → Outcome) → Tracks enters first active o → ((x : ℕ) (u : World) → Left enters first active u → Tracks enters first active' (f x u)) → Tracks enters first active' (then_go o f)
+  -- a write shows the same with any mark, and a call with any mark that has the stack pointers
+  pub follows_wrote : (first now : Tracker) (a n v : ℕ) (w : World) → Follows enters first now now w → Follows enters first now now (emit_plain (c.Wrote a n v) w)
+  follows_wrote first now a n v w f =
+      let m : Marked = record { event = c.Wrote a n v; mark = mark_at 0 eight_zeros w } in
+      record { told = told_more first now w.events m f.told f.behind refl; behind = behind_more first now w.events m f.behind; turns = f.turns; msp_ns = f.msp_ns; psp_ns = f.psp_ns }
+
+  pub follows_called : (first now : Tracker) (target : ℕ) (args : List ℕ) (exit : ℕ) (kept : List ℕ) (w : World) → Follows enters first now now w → Follows enters first (cross enters now) now (emit (c.Called target args) (mark_at exit kept w) w)
+  follows_called first now target args exit kept w f =
+      let e = c.Called target args in
+      let m : Marked = record { event = e; mark = mark_at exit kept w } in
+      let with : ℕ → ℕ → Mark = λ x y. record { exit = exit; kept = kept; msp_ns = x; psp_ns = y } in
+      let same : shown_of enters e m.mark ≡ shown_of enters e (mark_by now) = ap (λ x. shown_of enters e (with x w.psp_ns)) f.msp_ns ∙ ap (λ x. shown_of enters e (with now.msp_ns x)) f.psp_ns in
+      record { told = told_more first now w.events m f.told f.behind same; behind = behind_more first now w.events m f.behind; turns = f.turns; msp_ns = f.msp_ns; psp_ns = f.psp_ns }
+
+  pub tracks_then : (first : Tracker) (active active' : List Frame) (o : Outcome) (f : ℕ → World → Outcome) → Tracks enters first active o → ((x : ℕ) (u : World) → Left enters first active u → Tracks enters first active' (f x u)) → Tracks enters first active' (then_go o f)
   tracks_then first active active' (Gave x u) f h g = g x u h.by
   tracks_then first active active' (Over e u) f h g = record { by = h.by }
 
