@@ -1,5 +1,5 @@
 -- The program never stops as only a machine does.
-use Rattle.std.proofs.Common.{◌≡◌, ℕ, zero, suc, Bool, true, false, cond, List, [], ◌∷◌, ◌++◌, length, refl, sym, ap, ◌∙◌, Option, Some, None}
+use Rattle.std.proofs.Common.{◌≡◌, ℕ, zero, suc, Bool, true, false, cond, List, [], ◌∷◌, ◌++◌, length, refl, ap, ◌∙◌, Option, Some, None}
 use Rattle.std.specs.Prelude.{not, ◌&&◌, take}
 use Rattle.cm_base.specs.declared.stop.Stop.{Stop}
 use Rattle.cm_base.specs.declared.stop.Stop.TheVariants as stop
@@ -19,7 +19,7 @@ use Rattle.ns_types.specs.State.{Memory}
 use Rattle.ns_types.specs.Platform.{in_row, is_secure, is_nonsecure, aligned}
 use Rattle.ns_types.specs.Boundary.{Mark, Acted, acted, acted_or, item_stop, with_item, in_four, eight_zeros, kept_of, goes_of, view_of, reset_address, start_mark}
 use Rattle.ns_types.specs.CRun.{Marked, World, Outcome, Gave, Over, emit, mark_at, reach, chain, phase, at_top, run_of, fresh, stop_or, stopped, turned}
-use Rattle.ns_types.specs.Show.{Shown, show, shown_of, given_if, events_shown}
+use Rattle.ns_types.specs.Show.{show, shown_of, given_if, events_shown}
 use Rattle.ns_types.proofs.ShowLaws.{show_append, events_append}
 use Rattle.v8m_mem.specs.Rows.{memory_of}
 use Rattle.ns_turns.specs.Refines.{is_clean, is_clean_event, is_machine_stop, seen_of}

@@ -23,7 +23,7 @@ use Rattle.ns_types.specs.Memory.{word_at, load}
 use Rattle.ns_types.specs.Boundary.{Mark, Acted, acted, in_four, kept_of, view, goes_of, goes_or, goes_outside, function_return}
 use Rattle.ns_types.specs.CRun.{Marked, World, Outcome, Gave, Over, emit, mark_at, reach, chain, phase, at_top, run_of, stop_or}
 use Rattle.ns_types.specs.CRun as crun
-use Rattle.ns_types.specs.Show.{Shown, show, shown_of, given_if, events_shown}
+use Rattle.ns_types.specs.Show.{show, shown_of, given_if, events_shown}
 use Rattle.ns_types.proofs.ShowLaws.{events_append}
 use Rattle.v8m_core.specs.declared.stepped.Stepped.{Stepped}
 use Rattle.v8m_core.specs.declared.stepped.Stepped.TheVariants as what

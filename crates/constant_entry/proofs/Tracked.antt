@@ -1,10 +1,8 @@
 -- The program's body keeps to what follows from its events, and its bound only lets it go further.
-use Rattle.std.proofs.Common.{◌≡◌, ℕ, zero, suc, ◌≤◌, List, [], refl, arith, Option}
+use Rattle.std.proofs.Common.{ℕ, zero, suc, ◌≤◌, List, [], refl, arith}
 use Rattle.std.proofs.lemmas.List.{append-nil}
-use Rattle.ns_types.specs.declared.event.Bound.{Bound}
-use Rattle.ns_types.specs.declared.event.End.TheVariants as end
-use Rattle.ns_types.specs.CRun.{World, Outcome, Gave, Over}
-use Rattle.ns_types.specs.Bounds.{Adds, Reaches, Meaning, IsWithin, GoesFurther}
+use Rattle.ns_types.specs.CRun.{World}
+use Rattle.ns_types.specs.Bounds.{Adds, Reaches, GoesFurther}
 use Rattle.ns_types.specs.Marks.{Tracker, Follows, Tracks, AreTracked}
 use Rattle.ns_types.proofs.MarkLaws.{run_told}
 use Rattle.v8m_mem.specs.Rows.{memory_of}

@@ -16,7 +16,7 @@ use Rattle.ns_types.specs.declared.turn.Item.{Item}
 use Rattle.ns_types.specs.declared.turn.Turn.{Turn}
 use Rattle.ns_types.specs.declared.turn.Start.{Start}
 use Rattle.ns_types.specs.State.{State}
-use Rattle.ns_types.specs.Platform.{row, is_nonsecure, lies_in, aligned}
+use Rattle.ns_types.specs.Platform.{row, lies_in, aligned}
 use Rattle.ns_types.specs.Memory.{put_number, load}
 use Rattle.ns_types.specs.Boundary.{Acted, acted, acted_or, item_stop, with_item}
 use Rattle.ns_types.specs.Ram.{is_turn, crosses, with_items, Moved, crossed, ram_at, AreSecure}
@@ -29,7 +29,7 @@ use Rattle.v8m_core.proofs.Runs.{stays}
 use Rattle.ns_turns.specs.Run.{event_of, ends, after, next_of, run_of, machine_run}
 use Rattle.ns_turns.specs.Moments.{Moment, moments_of, moments, events_in, given_ram, is_write, Tells, AllTell, KnowsRam}
 use Rattle.ns_turns.proofs.RunLaws.{run_step, run_turn, run_waits}
-use Rattle.ns_turns.proofs.Tell.{Leads, Told, told, tells}
+use Rattle.ns_turns.proofs.Tell.{Leads, told, tells}
 
 -- How both go on, by who runs
 
@@ -156,7 +156,6 @@ from rom NonSecure ts ram = crossed (gateway_at rom) ts ram
 from rom (Stopped x) ts ram = record { turns = ts; ram = ram }
 
 module _ (rom : List ℕ) (n : ℕ) (ts : List Turn) where
-
   -- what the rest of a run from t gives at its k-th hand-over, counted from these turns and this memory
   abbrev Counts : State → ℕ → Moved → Type 0
   Counts t k m = given_ram (moments rom n ts t) k ≡ ram_at (gateway_at rom) (run_of rom n ts t).list k m.turns m.ram

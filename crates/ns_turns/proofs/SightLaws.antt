@@ -1,12 +1,11 @@
 -- What events show at a hand-over, where more events follow.
-use Rattle.std.proofs.Common.{◌≡◌, ◌≢◌, ℕ, zero, suc, ◌+◌, ◌-◌, ◌<◌, ◌≤◌, ◌⊎◌, List, [], ◌∷◌, ◌++◌, refl, sym, ap, ◌∙◌, subst, ⊎_elim, inl, inr, arith, Option, Some, None}
+use Rattle.std.proofs.Common.{◌≡◌, ℕ, zero, suc, ◌-◌, ◌<◌, ◌≤◌, ◌⊎◌, List, [], ◌∷◌, ◌++◌, refl, sym, ap, ◌∙◌, subst, ⊎_elim, arith, Option, Some}
 use Rattle.std.specs.Prelude.{min, take}
 use Rattle.std.proofs.lemmas.Bool.{cases_lt}
 use Rattle.cm_base.specs.declared.stop.Stop.{Stop}
 use Rattle.cm_base.specs.declared.stop.Stop.TheVariants.{StackLimit}
 use Rattle.ns_types.specs.declared.event.Event.{Event}
 use Rattle.ns_types.specs.declared.event.Event.TheVariants as event
-use Rattle.ns_types.specs.declared.event.End.{End}
 use Rattle.ns_types.specs.declared.event.End.TheVariants as end
 use Rattle.ns_types.specs.declared.event.Events.{Events}
 use Rattle.ns_types.specs.declared.event.Bound.{Bound}
@@ -18,9 +17,9 @@ use Rattle.ns_types.specs.Memory.{put_number}
 use Rattle.ns_types.specs.Prefix.{IsFront}
 use Rattle.ns_types.specs.CRun.{Run}
 use Rattle.ns_types.specs.Show.{show, events_shown}
-use Rattle.ns_types.specs.Ram.{Moved, crossed, ram_at}
-use Rattle.ns_types.specs.Sight.{Played, view_at, given_count, ram_of, SameSight}
-use Rattle.ns_types.specs.Marks.{events_of, Tracker, first_tracker, IsTold}
+use Rattle.ns_types.specs.Ram.{crossed, ram_at}
+use Rattle.ns_types.specs.Sight.{view_at, given_count}
+use Rattle.ns_types.specs.Marks.{first_tracker, IsTold}
 use Rattle.ns_types.proofs.ShowLaws.{shown_front}
 use Rattle.ns_types.proofs.MarkLaws.{same_shown}
 use Rattle.ns_types.proofs.BoundLaws.{front_trans}
@@ -29,9 +28,9 @@ use Rattle.v8m_core.specs.Reset.{reset_of}
 use Rattle.ns_turns.specs.Run.{machine_run}
 use Rattle.ns_turns.specs.GoesOn.{GoesOn}
 use Rattle.ns_turns.specs.Refines.{seen_of, Same, OutOfRoom, room, Refines}
-use Rattle.ns_turns.specs.TwoWorlds.{SameOutside, machine_plays, hand_overs, TwoWorlds, TellsAll}
+use Rattle.ns_turns.specs.TwoWorlds.{hand_overs, TwoWorlds, TellsAll}
 use Rattle.ns_turns.proofs.RunLaws.{run_goes}
-use Rattle.ns_turns.proofs.OnlyLaws.{front_or_all, is_spent}
+use Rattle.ns_turns.proofs.OnlyLaws.{front_or_all}
 
 view_append : (xs ys : List Event) (k : ℕ) → k < given_count xs → view_at (xs ++ ys) k ≡ view_at xs k
 view_append [] ys k lt = absurd (omega arith)

@@ -1,5 +1,5 @@
 -- A larger bound only lets a run go further.
-use Rattle.std.proofs.Common.{◌≡◌, ◌≢◌, ℕ, zero, suc, ◌+◌, ◌≤◌, Bool, true, false, List, [], ◌∷◌, ◌++◌, length, refl, sym, ap, ◌∙◌, subst, arith, append_assoc, Option, Some, None}
+use Rattle.std.proofs.Common.{ℕ, zero, suc, ◌≤◌, List, [], ◌∷◌, ◌++◌, length, refl, sym, ap, ◌∙◌, subst, arith, append_assoc, Option, Some, None}
 use Rattle.std.specs.Prelude.{take}
 use Rattle.std.proofs.lemmas.List.{append-nil}
 use Rattle.cm_base.specs.declared.stop.Stop.{Stop}
@@ -8,16 +8,15 @@ use Rattle.ns_types.specs.declared.goes.Goes.{Goes}
 use Rattle.ns_types.specs.declared.goes.Goes.TheVariants as goes
 use Rattle.ns_types.specs.declared.event.CEvent.TheVariants as c
 use Rattle.ns_types.specs.declared.event.Bound.{Bound}
-use Rattle.ns_types.specs.declared.event.End.{End}
 use Rattle.ns_types.specs.declared.event.End.TheVariants as end
 use Rattle.ns_types.specs.declared.turn.Turn.{Turn}
 use Rattle.ns_types.specs.declared.turn.Start.{Start}
 use Rattle.ns_types.specs.State.{Memory}
 use Rattle.ns_types.specs.Platform.{aligned}
 use Rattle.ns_types.specs.Boundary.{acted, goes_of, in_four, eight_zeros, kept_of, reset_address}
-use Rattle.ns_types.specs.CRun.{Marked, World, Outcome, Gave, Over, then_go, mark_at, emit, emit_plain, chain, phase, take_turn, turned, stop_or, stopped, at_top, run_of, fresh, c_run}
+use Rattle.ns_types.specs.CRun.{World, Outcome, Gave, Over, then_go, mark_at, emit, chain, phase, take_turn, turned, stop_or, stopped, at_top, run_of, fresh, c_run}
 use Rattle.ns_types.specs.Prefix.{IsFront}
-use Rattle.ns_types.specs.Bounds.{world_of, is_spent, Adds, Reaches, Meaning, IsWithin, GoesFurther, Extends}
+use Rattle.ns_types.specs.Bounds.{world_of, Adds, Reaches, Meaning, IsWithin, GoesFurther, Extends}
 
 pub front_same : {X : Type 0} (xs : List X) → IsFront xs xs
 front_same xs = ([], append-nil xs)
@@ -46,7 +45,6 @@ adds_then w (Gave x u) f a g = record { front = front_trans w.events u.events (w
 adds_then w (Over e u) f a g = a
 
 module _ (enters : ℕ → Option ℕ) (enter : ℕ → List ℕ → World → Outcome) (adds : (e : ℕ) (args : List ℕ) (w : World) → Adds w (enter e args w)) where
-
   pub adds_chain : (next : World → Outcome) → ((w : World) → Adds w (next w)) → (exit : ℕ) (kept : List ℕ) (left : ℕ) (g : Goes) (args : List ℕ) (w : World) → Adds w (chain enters enter next exit kept left g args w)
   adds_chain next later exit kept zero (goes.Enter e) args w = record { front = front_same w.events }
   adds_chain next later exit kept zero goes.Return args w = record { front = front_same w.events }
@@ -95,7 +93,6 @@ reaches_then (Over end.Stopped u) b f g r more adds = subst (λ o. Reaches (Over
 reaches_then (Over end.Waiting u) b f g r more adds = subst (λ o. Reaches (Over end.Waiting u) (then_go o g)) (sym (r.same refl)) (reaches_same (Over end.Waiting u))
 
 module _ (enters : ℕ → Option ℕ) (low high : ℕ → List ℕ → World → Outcome) (adds : (e : ℕ) (args : List ℕ) (w : World) → Adds w (high e args w)) (more : (e : ℕ) (args : List ℕ) (w : World) → Reaches (low e args w) (high e args w)) where
-
   pub reaches_chain : (next next' : World → Outcome) → ((w : World) → Reaches (next w) (next' w)) → ((w : World) → Adds w (next' w)) → (exit : ℕ) (kept : List ℕ) (left left' : ℕ) → left ≤ left' → (g : Goes) (args : List ℕ) (w : World) → Reaches (chain enters low next exit kept left g args w) (chain enters high next' exit kept left' g args w)
   reaches_chain next next' onward later exit kept zero left' le (goes.Enter e) args w = record { front = (adds_chain enters high adds next' later exit kept left' (goes.Enter e) args w).front; same = λ s. cc }
   reaches_chain next next' onward later exit kept zero zero le goes.Return args w = reaches_same _

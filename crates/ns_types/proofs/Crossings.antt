@@ -2,7 +2,6 @@
 use Rattle.std.proofs.Common.{◌≡◌, ℕ, zero, suc, ◌-◌, Bool, true, false, cond, List, [], ◌∷◌, refl, sym, ap, ◌∙◌, arith, Option, Some, None}
 use Rattle.std.specs.Prelude.{not, eqb}
 use Rattle.std.proofs.lemmas.Bool.Decides.{nat_tests}
-use Rattle.ns_types.specs.declared.goes.Goes.{Goes}
 use Rattle.ns_types.specs.declared.goes.Goes.TheVariants as goes
 use Rattle.ns_types.specs.declared.event.Event.{Event}
 use Rattle.ns_types.specs.declared.event.Event.TheVariants as event
@@ -10,7 +9,7 @@ use Rattle.ns_types.specs.declared.turn.Turn.{Turn}
 use Rattle.ns_types.specs.Platform.{row, is_secure, is_nonsecure, aligned}
 use Rattle.ns_types.specs.Memory.{put_number}
 use Rattle.ns_types.specs.Boundary.{function_return, goes_outside, goes_or, goes_of}
-use Rattle.ns_types.specs.Ram.{is_turn, crosses, with_items, Moved, crossed, ram_at, AreSecure}
+use Rattle.ns_types.specs.Ram.{is_turn, crosses, with_items, crossed, ram_at, AreSecure}
 
 not_returning : (a : ℕ) → is_nonsecure a ≡ true → eqb a function_return ≡ false
 not_returning a h = grind (arith, nat_tests)
@@ -38,7 +37,6 @@ unfolding goes_of
 turn_is enters h t = by_place (enters (aligned 2 t)) (aligned 2 t) (is_nonsecure (aligned 2 t)) refl (h.by (aligned 2 t))
 
 module _ (e f : ℕ → Option ℕ) (p : AreSecure e) (q : AreSecure f) where
-
   crosses_same : (t : Turn) → crosses e t ≡ crosses f t
   crosses_same t = ap not (turn_is e p t.target ∙ sym (turn_is f q t.target))
 

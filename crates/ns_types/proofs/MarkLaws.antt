@@ -1,5 +1,5 @@
 -- What the caller sees of a program's events follows from the events, the turns and the start.
-use Rattle.std.proofs.Common.{◌≡◌, ℕ, zero, suc, map, List, [], ◌∷◌, ◌++◌, length, refl, sym, ap, ◌∙◌, subst, Option, Some, None}
+use Rattle.std.proofs.Common.{◌≡◌, ℕ, zero, suc, List, [], ◌∷◌, ◌++◌, length, refl, sym, ap, ◌∙◌, subst, Option, Some, None}
 use Rattle.std.specs.Prelude.{take}
 use Rattle.std.proofs.lemmas.List.{map-append, take-map}
 use Rattle.cm_base.specs.declared.stop.Stop.{Stop}
@@ -8,19 +8,16 @@ use Rattle.ns_types.specs.declared.goes.Goes.{Goes}
 use Rattle.ns_types.specs.declared.goes.Goes.TheVariants as goes
 use Rattle.ns_types.specs.declared.event.CEvent.{CEvent}
 use Rattle.ns_types.specs.declared.event.CEvent.TheVariants as c
-use Rattle.ns_types.specs.declared.event.End.{End}
-use Rattle.ns_types.specs.declared.event.End.TheVariants as end
 use Rattle.ns_types.specs.declared.turn.Turn.{Turn}
 use Rattle.ns_types.specs.declared.turn.Start.{Start}
 use Rattle.ns_types.specs.State.{Memory}
 use Rattle.ns_types.specs.Platform.{aligned}
-use Rattle.ns_types.specs.Boundary.{Mark, Acted, acted, goes_of, in_four, eight_zeros, kept_of, start_mark, reset_address}
+use Rattle.ns_types.specs.Boundary.{Mark, acted, goes_of, in_four, eight_zeros, kept_of, start_mark}
 use Rattle.ns_types.specs.CRun.{Marked, World, Outcome, Gave, Over, then_go, mark_at, emit, emit_plain, chain, phase, take_turn, turned, stop_or, stopped, at_top, run_of, fresh, c_run}
 use Rattle.ns_types.specs.Show.{Shown, show, shown_of}
-use Rattle.ns_types.specs.Marks.{Frame, Tracker, newest, older, led, crossing, cross, going, leaving, tracker_after, mark_by, tracked, tracker_behind, first_tracker, events_of, shown_each, IsTold, Follows, Left, Keeps, Tracks, AreTracked}
+use Rattle.ns_types.specs.Marks.{Frame, Tracker, newest, older, crossing, cross, going, tracker_after, mark_by, tracked, tracker_behind, first_tracker, events_of, shown_each, IsTold, Follows, Left, Tracks, AreTracked}
 
 module _ (enters : ℕ → Option ℕ) where
-
   tracked_append : (xs ys : List CEvent) (t : Tracker) → tracked enters (xs ++ ys) t ≡ tracked enters xs t ++ tracked enters ys (tracker_behind enters xs t)
   tracked_append [] ys t = refl
   tracked_append (x ∷ xs) ys t = ap (λ l. record { event = x; mark = mark_by t } ∷ l) (tracked_append xs ys (tracker_after enters x t))
@@ -108,7 +105,6 @@ module _ (enters : ℕ → Option ℕ) where
   tracks_take first active a f (t ∷ ts) x y = y t ts refl
 
   module _ (enter : ℕ → List ℕ → World → Outcome) (body : AreTracked enters enter) where
-
     pub tracks_chain : (next : World → Outcome) → PhaseIsTracked next → (exit : ℕ) (kept : List ℕ) (left : ℕ) (g : Goes) (args : List ℕ) (w : World) (first here : Tracker) → Follows enters first (going enters g (record { exit = exit; kept = kept }) here) here w → Tracks enters first here.active (chain enters enter next exit kept left g args w)
     tracks_chain next phases exit kept zero (goes.Enter e) args w first here f = record { by = f.told }
     tracks_chain next phases exit kept zero goes.Return args w first here f = record { by = record { now = here; same = refl; follows = f } }

@@ -1,8 +1,7 @@
 -- All bytes of a range lie in a row exactly where its first and its last one do.
-use Rattle.std.proofs.Common.{◌≡◌, ℕ, zero, suc, ◌+◌, ◌<◌, ◌≤◌, Bool, true, false, refl, sym, ap, ◌∙◌, arith, ⊎_elim}
+use Rattle.std.proofs.Common.{◌≡◌, ℕ, zero, suc, ◌+◌, true, ap, ◌∙◌, arith}
 use Rattle.std.specs.Prelude.{◌&&◌, leb, ltb}
 use Rattle.std.proofs.lemmas.Bool.Decides.{nat_tests}
-use Rattle.cm_base.specs.declared.regions.Row.{Row}
 use Rattle.ns_types.specs.Platform.{row, in_row, lies_in}
 use Rattle.ns_types.specs.Range.{all_in}
 

@@ -1,5 +1,5 @@
 -- What the caller sees of a run: in parts, and against what the program declares.
-use Rattle.std.proofs.Common.{◌≡◌, ℕ, ◌≤◌, zero, suc, List, [], ◌∷◌, ◌++◌, length, refl, sym, ap, ◌∙◌, subst, arith, append_assoc, Option, Some, None}
+use Rattle.std.proofs.Common.{◌≡◌, ℕ, ◌≤◌, List, [], ◌∷◌, ◌++◌, length, refl, sym, ap, ◌∙◌, subst, arith, append_assoc, Option}
 use Rattle.std.specs.Prelude.{take, drop}
 use Rattle.std.proofs.lemmas.List.{take-append-drop}
 use Rattle.ns_types.specs.declared.goes.Goes.{Goes}
@@ -7,11 +7,11 @@ use Rattle.ns_types.specs.declared.goes.Goes.TheVariants as goes
 use Rattle.ns_types.specs.declared.event.Event.{Event}
 use Rattle.ns_types.specs.declared.event.CEvent.{CEvent}
 use Rattle.ns_types.specs.declared.event.CEvent.TheVariants as c
-use Rattle.ns_types.specs.Boundary.{Mark, goes_of, in_four, eight_zeros, view, view_of}
+use Rattle.ns_types.specs.Boundary.{Mark, goes_of, in_four, eight_zeros, view_of}
 use Rattle.ns_types.specs.CRun.{Marked}
 use Rattle.ns_types.specs.Show.{Shown, show, shown_of, given_if, events_shown}
 use Rattle.ns_types.specs.Prefix.{IsFront}
-use Rattle.ns_types.specs.Declares.{HasDeclared, DeclaresEvent, Declares, HasFewArguments, AllHaveFewArguments, DeclaresFront}
+use Rattle.ns_types.specs.Declares.{DeclaresEvent, Declares, HasFewArguments, AllHaveFewArguments, DeclaresFront}
 
 pub show_append : (enters : ℕ → Option ℕ) (a b : List Marked) → show enters (a ++ b) ≡ show enters a ++ show enters b
 show_append enters [] b = refl

@@ -3,10 +3,9 @@ use Rattle.std.proofs.Common.{◌≡◌, ℕ, refl, List, [], ◌∷◌, Some, N
 use Rattle.cm_base.specs.declared.stop.Stop.TheVariants.{Divide, Misaligned, Outside}
 use Rattle.ns_types.specs.declared.event.CEvent.TheVariants.{Wrote}
 use Rattle.ns_types.specs.State.{Memory}
-
 use Rattle.ns_types.specs.Memory.{store, put_word, put_byte}
 use Rattle.ns_types.specs.Operators.{add, subtract, negate, divide_unsigned, divide_signed, remainder_signed, shift_left, shift_right_signed, shift_right_unsigned, less_signed, less_unsigned, at_most_signed, to_signed, to_unsigned}
-use Rattle.ns_types.specs.Access.{access_stop, may_read, may_write, read_access, write_access}
+use Rattle.ns_types.specs.Access.{access_stop, may_read, may_write, write_access}
 use Rattle.ns_types.specs.Range.{checked_range, row_of_all}
 
 -- the least value by -1, and by 0
