@@ -10,11 +10,13 @@ use Rattle.std.proofs.lemmas.Bool.{cases_lt}
 use Rattle.cmse_build.specs.Reading.{rom_of_image, zeros, word, is_entry}
 use Rattle.cmse_build.proofs.Ready.{short_name}
 use Rattle.ns_turns.proofs.OnlyLaws.{only_from_refines}
+use Rattle.ns_turns.proofs.SightLaws.{two_worlds}
 use Rattle.constant_entry.specs.Code.{rom_bytes, used_bytes, gateway_bytes}
 use Rattle.constant_entry.specs.Meaning.{enters_first, constant_run}
 use Rattle.constant_entry.proofs.Views.{shows_constant}
 use Rattle.constant_entry.proofs.Whole.{refines}
 use Rattle.constant_entry.proofs.Clean.{clean_run}
+use Rattle.constant_entry.proofs.Tracked.{tells_all}
 use Rattle.constant_entry.proofs.Placed.{gives_constant}
 use Rattle.cmse.specs.declared.status.Status.{Status}
 use Rattle.cmse.specs.declared.status.Status.TheVariants.{Done, Refused, BadWords, CannotRead, CannotWrite, NoMemory, BadInput}
@@ -37,6 +39,7 @@ builds text name lib img n form lists reads =
       shows = shows_constant (rom_bytes n) n holds;
       does = does;
       only = only_from_refines (rom_bytes n) enters_first (constant_run n) does (clean_run n);
+      worlds = two_worlds (rom_bytes n) enters_first (constant_run n) does (tells_all n);
     }
 
 end_short : (rest : List ℕ) → IsEnd rest → length rest ≤ 4

@@ -1,5 +1,5 @@
 -- The program never stops as only a machine does.
-use Rattle.std.proofs.Common.{◌≡◌, ℕ, zero, suc, Bool, true, false, cond, List, [], ◌∷◌, ◌++◌, length, refl, sym, ap, ◌∙◌, Option, Some, None}
+use Rattle.std.proofs.Common.{◌≡◌, ℕ, zero, suc, Bool, true, false, cond, List, [], ◌∷◌, ◌++◌, length, refl, ap, ◌∙◌, Option, Some, None}
 use Rattle.std.specs.Prelude.{not, ◌&&◌, take}
 use Rattle.cm_base.specs.declared.stop.Stop.{Stop}
 use Rattle.cm_base.specs.declared.stop.Stop.TheVariants as stop
@@ -19,7 +19,8 @@ use Rattle.ns_types.specs.State.{Memory}
 use Rattle.ns_types.specs.Platform.{in_row, is_secure, is_nonsecure, aligned}
 use Rattle.ns_types.specs.Boundary.{Mark, Acted, acted, acted_or, item_stop, with_item, in_four, eight_zeros, kept_of, goes_of, view_of, reset_address, start_mark}
 use Rattle.ns_types.specs.CRun.{Marked, World, Outcome, Gave, Over, emit, mark_at, reach, chain, phase, at_top, run_of, fresh, stop_or, stopped, turned}
-use Rattle.ns_types.specs.Show.{Shown, show, shown_of, given_if, events_shown}
+use Rattle.ns_types.specs.Show.{show, shown_of, given_if, events_shown}
+use Rattle.ns_types.proofs.ShowLaws.{show_append, events_append}
 use Rattle.v8m_mem.specs.Rows.{memory_of}
 use Rattle.ns_turns.specs.Refines.{is_clean, is_clean_event, is_machine_stop, seen_of}
 use Rattle.constant_entry.specs.Meaning.{enters_first, gives, need, constant_run}
@@ -46,24 +47,12 @@ clean_more (x ∷ xs) ys p q =
     let two = and_parts (is_clean_event x) (is_clean xs) p in
     both (is_clean_event x) (is_clean (xs ++ ys)) two.0 (clean_more xs ys two.1 q)
 
-shown-append : (a b : List Shown) → events_shown (a ++ b) ≡ events_shown a ++ events_shown b
-shown-append [] b = refl
-shown-append (x ∷ a) b = ap (λ l. x.event ∷ l) (shown-append a b)
-
-assoc : {X : Type 0} (a b d : List X) → (a ++ b) ++ d ≡ a ++ (b ++ d)
-assoc [] b d = refl
-assoc (x ∷ a) b d = ap (λ l. x ∷ l) (assoc a b d)
-
-show-append : (a b : List Marked) → show enters_first (a ++ b) ≡ show enters_first a ++ show enters_first b
-show-append [] b = refl
-show-append (x ∷ a) b = ap (λ l. shown_of enters_first x.event x.mark ++ l) (show-append a b) ∙ sym (assoc (shown_of enters_first x.event x.mark) (show enters_first a) (show enters_first b))
-
 -- one more event that is clean
 clean_emit : (e : CEvent) (m : Mark) (w : World) → IsClean w → is_clean (events_shown (shown_of enters_first e m)) ≡ true → IsClean (emit e m w)
 clean_emit e m w h q = record {
   by =
-      ap is_clean (ap events_shown (show-append w.events (record { event = e; mark = m } ∷ [])) ∙ shown-append (show enters_first w.events) (show enters_first (record { event = e; mark = m } ∷ [])))
-      ∙ clean_more (events_shown (show enters_first w.events)) _ h.by (ap is_clean (shown-append (shown_of enters_first e m) []) ∙ clean_more (events_shown (shown_of enters_first e m)) [] q refl);
+      ap is_clean (ap events_shown (show_append enters_first w.events (record { event = e; mark = m } ∷ [])) ∙ events_append (show enters_first w.events) (show enters_first (record { event = e; mark = m } ∷ [])))
+      ∙ clean_more (events_shown (show enters_first w.events)) _ h.by (ap is_clean (events_append (shown_of enters_first e m) []) ∙ clean_more (events_shown (shown_of enters_first e m)) [] q refl);
 }
 
 clean_given : (g : Goes) (e : CEvent) (v : Option View) → is_clean (events_shown (given_if g e v)) ≡ true

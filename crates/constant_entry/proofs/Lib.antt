@@ -5,3 +5,4 @@ pub mod Refine
 pub mod Whole
 pub mod Clean
 pub mod Placed
+pub mod Tracked

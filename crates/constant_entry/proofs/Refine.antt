@@ -2,6 +2,7 @@
 use Rattle.std.proofs.Common.{◌≡◌, ◌≢◌, ℕ, zero, suc, ◌+◌, ◌-◌, ◌%◌, ◌≤◌, Bool, true, false, cond, List, [], ◌∷◌, ◌++◌, length, refl, sym, ap, ◌∙◌, subst, arith, Option, Some, None, append_assoc}
 use Rattle.std.specs.Prelude.{eqb, ◌&&◌, not, take}
 use Rattle.std.proofs.lemmas.Bool.Decides.{nat_tests}
+use Rattle.std.proofs.lemmas.List.{append-nil}
 use Rattle.cm_base.specs.declared.stop.Stop.{Stop}
 use Rattle.cm_base.specs.declared.stop.Stop.TheVariants as stop
 use Rattle.v8m_isa.specs.Table.{size_of}
@@ -22,7 +23,8 @@ use Rattle.ns_types.specs.Memory.{word_at, load}
 use Rattle.ns_types.specs.Boundary.{Mark, Acted, acted, in_four, kept_of, view, goes_of, goes_or, goes_outside, function_return}
 use Rattle.ns_types.specs.CRun.{Marked, World, Outcome, Gave, Over, emit, mark_at, reach, chain, phase, at_top, run_of, stop_or}
 use Rattle.ns_types.specs.CRun as crun
-use Rattle.ns_types.specs.Show.{Shown, show, shown_of, given_if, events_shown}
+use Rattle.ns_types.specs.Show.{show, shown_of, given_if, events_shown}
+use Rattle.ns_types.proofs.ShowLaws.{events_append}
 use Rattle.v8m_core.specs.declared.stepped.Stepped.{Stepped}
 use Rattle.v8m_core.specs.declared.stepped.Stepped.TheVariants as what
 use Rattle.v8m_core.specs.Step.{Done, went, stopped, unless, seen, handed, entered, returned, turned, turn_of, return_stop, return_to, arrived, bxns, goes_in, effect_of, apply}
@@ -93,10 +95,6 @@ shows_given v goes.Return e = refl
 shows_given v goes.EntryPoint e = refl
 shows_given v goes.Astray e = refl
 
-append_none : {X : Type 0} (xs : List X) → xs ++ [] ≡ xs
-append_none [] = refl
-append_none (x ∷ xs) = ap (λ l. x ∷ l) (append_none xs)
-
 -- a stop of both
 stop_plays : (rom : List ℕ) (ts : List Turn) (x : Stop) (s : State) (w : World) (least : ℕ) → Plays (λ k. after (stopped x s) (m.run_of rom k ts (stopped x s).state)) [] w least (crun.stopped x w)
 unfolding m.run_of
@@ -160,10 +158,6 @@ regs_kept s =
     let r = s.cpu.regs in
     r.r4 ∷ r.r5 ∷ r.r6 ∷ r.r7 ∷ r.r8 ∷ r.r9 ∷ r.r10 ∷ r.r11 ∷ []
 
-pub events_shown-append : (a b : List Shown) → events_shown (a ++ b) ≡ events_shown a ++ events_shown b
-events_shown-append [] b = refl
-events_shown-append (x ∷ a) b = ap (λ l. x.event ∷ l) (events_shown-append a b)
-
 -- what a hand-over behind the entry shows is the view of its result
 seen_result : (n exit : ℕ) (kept : List ℕ) (s : State) (w : World) → IsQuiet s w → regs_kept s ≡ kept → aligned 2 s.cpu.regs.lr ≡ exit
     → seen (answering n (record (entered first_veneer s) { cpu = record (entered first_veneer s).cpu { pc = entry_place } })).cpu exit ≡ view (in_four (n ∷ [])) kept 0 exit exit (mark_at exit kept w)
@@ -219,7 +213,7 @@ module _ (rom : List ℕ) (n : ℕ) (h : GivesConstant rom n) (turns deep fuel :
   no_step : (a : ℕ) (s : State) (w : World) (least : ℕ) → least ≤ 0 → Plays (λ k. after (went (entered a s)) (m.run_of rom k w.turns (entered a s))) [] w least (Over end.Spent w)
   no_step a s w least few =
       let stops = run_spent rom w.turns (entered a s) refl in
-      record { more = []; n = 0; events = sym (append_none w.events); list = ap (λ (x : Events). x.list) stops; ended = λ ne. absurd (ne refl); spent = λ x. (ap (λ (x : Events). x.end) stops, few) }
+      record { more = []; n = 0; events = sym (append-nil w.events); list = ap (λ (x : Events). x.list) stops; ended = λ ne. absurd (ne refl); spent = λ x. (ap (λ (x : Events). x.end) stops, few) }
 
   -- the entry, from its gateway on, where its hand-over goes on as onward says
   enters : (left exit : ℕ) (kept args : List ℕ) (hands : Stepped) (s : State) (w : World) (least : ℕ) → length w.turns ≤ fuel → least ≤ deep → IsQuiet s w → regs_kept s ≡ kept → aligned 2 s.cpu.regs.lr ≡ exit
@@ -280,7 +274,7 @@ module _ (rom : List ℕ) (n : ℕ) (h : GivesConstant rom n) (turns deep fuel :
             more = record { event = c.Result 0 n; mark = beside } ∷ p.more;
             n = suc (7 + suc p.n);
             events = p.events ∙ append_assoc w.events (record { event = c.Result 0 n; mark = beside } ∷ []) p.more;
-            list = ap (λ (x : Events). x.list) steps ∙ p.list ∙ ap (λ l. l ++ events_shown (show enters_first p.more)) (ap (shows_at hand) goes_there ∙ shows) ∙ sym (events_shown-append (shown_of enters_first (c.Result 0 n) beside) (show enters_first p.more));
+            list = ap (λ (x : Events). x.list) steps ∙ p.list ∙ ap (λ l. l ++ events_shown (show enters_first p.more)) (ap (shows_at hand) goes_there ∙ shows) ∙ sym (events_append (shown_of enters_first (c.Result 0 n) beside) (show enters_first p.more));
             ended = λ ne. ap (λ (x : Events). x.end) steps ∙ p.ended ne;
             spent = λ x. let r = p.spent x in (ap (λ (x : Events). x.end) steps ∙ r.0, omega arith);
           }
@@ -324,11 +318,11 @@ pub phase_plays : (rom : List ℕ) (n : ℕ) → GivesConstant rom n → (turns 
     → Plays (λ k. m.run_of rom k ts s) [] (record { turns = ts; events = events; peak = peak; memory = memory; msp_ns = msp; psp_ns = psp }) least (phase enters_first (gives n deep) turns fuel (record { turns = ts; events = events; peak = peak; memory = memory; msp_ns = msp; psp_ns = psp }))
 phase_plays rom n h turns deep zero [] events peak memory msp psp s least long few few_deep side q =
     let waits = run_waits rom 0 s side in
-    record { more = []; n = 0; events = sym (append_none events); list = ap (λ (x : Events). x.list) waits; ended = λ ne. ap (λ (x : Events). x.end) waits; spent = λ x. cc }
+    record { more = []; n = 0; events = sym (append-nil events); list = ap (λ (x : Events). x.list) waits; ended = λ ne. ap (λ (x : Events). x.end) waits; spent = λ x. cc }
 phase_plays rom n h turns deep zero (t ∷ ts) events peak memory msp psp s least long few few_deep side q = absurd (omega arith)
 phase_plays rom n h turns deep (suc fuel) [] events peak memory msp psp s least long few few_deep side q =
     let waits = run_waits rom 0 s side in
-    record { more = []; n = 0; events = sym (append_none events); list = ap (λ (x : Events). x.list) waits; ended = λ ne. ap (λ (x : Events). x.end) waits; spent = λ x. cc }
+    record { more = []; n = 0; events = sym (append-nil events); list = ap (λ (x : Events). x.list) waits; ended = λ ne. ap (λ (x : Events). x.end) waits; spent = λ x. cc }
 phase_plays rom n h turns deep (suc fuel) (t ∷ ts) events peak memory msp psp s least long few few_deep side q =
     by_items (acted t.items memory.ns_ram) refl
     (λ w s' least' long' few' few_deep' side' q'. phase_plays rom n h turns deep fuel w.turns w.events w.peak w.memory w.msp_ns w.psp_ns s' least' long' few' few_deep' side' q')

@@ -29,7 +29,8 @@ use Rattle.constant_entry.specs.Shows.{first_veneer, GivesConstant}
 use Rattle.constant_entry.specs.Meaning.{enters_first, gives, constant_run}
 use Rattle.constant_entry.proofs.States.{sealed, handing}
 use Rattle.constant_entry.proofs.Views.{starts, start_lr, start_seen, sealed_ns_rom}
-use Rattle.constant_entry.proofs.Refine.{IsQuiet, Plays, goes_m, goes_c, goes_of_is, bxns_arrives, arrives, phase_plays, shows_at, shows_given, events_shown-append}
+use Rattle.constant_entry.proofs.Refine.{IsQuiet, Plays, goes_m, goes_c, goes_of_is, bxns_arrives, arrives, phase_plays, shows_at, shows_given}
+use Rattle.ns_types.proofs.ShowLaws.{events_append}
 
 -- the start code writes the second word of the main stack's seal
 seal_stands : (s : State) → length s.memory.secure_ram ≡ 106496 → word_at (sealed s).memory.secure_ram 98300 ≡ 4277530021
@@ -69,7 +70,7 @@ refines rom n h start whole ts b =
     let shows : shows_at hand (goes_of enters_first v) ≡ events_shown (shown_of enters_first c.Started (start_mark start)) = shows_given (seen t1.cpu v) (goes_of enters_first v) c.Started ∙ ap (λ x. events_shown (given_if (goes_of enters_first v) c.Started (Some x))) (start_seen start s refl refl) in (
       41 + suc p.n,
       inl (record {
-        list = ap (λ (x : Events). x.list) steps ∙ p.list ∙ ap (λ l. l ++ events_shown (show enters_first p.more)) shows ∙ sym (events_shown-append (shown_of enters_first c.Started (start_mark start)) (show enters_first p.more)) ∙ ap (λ l. events_shown (show enters_first l)) (sym p.events);
+        list = ap (λ (x : Events). x.list) steps ∙ p.list ∙ ap (λ l. l ++ events_shown (show enters_first p.more)) shows ∙ sym (events_append (shown_of enters_first c.Started (start_mark start)) (show enters_first p.more)) ∙ ap (λ l. events_shown (show enters_first l)) (sym p.events);
         ended = λ ne. ap (λ (x : Events). x.end) steps ∙ p.ended ne;
         spent = λ e. let r = p.spent e in (ap (λ (x : Events). x.end) steps ∙ r.0, omega arith);
       }),

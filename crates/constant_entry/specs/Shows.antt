@@ -12,7 +12,7 @@ use Rattle.ns_types.specs.Boundary.{view, in_four, start_mark, turn_mark}
 use Rattle.v8m_core.specs.Step.{is_gateway}
 use Rattle.v8m_core.specs.Code.{HasCode}
 use Rattle.ns_turns.specs.Run.{machine_run}
-use Rattle.ns_turns.specs.Prefix.{IsFront}
+use Rattle.ns_types.specs.Prefix.{IsFront}
 use Rattle.constant_entry.specs.Code.{start_code, entry_code, gateway_code, start_place, entry_place}
 
 -- the address of the first veneer

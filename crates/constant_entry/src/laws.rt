@@ -1,7 +1,12 @@
 //! What the machine does with these programs, for every start, list of turns and number of steps.
 
-ghost use Rattle.std.specs.Prelude.{ℕ, ◌<◌, ◌^◌};
+ghost use Rattle.std.specs.Prelude.{ℕ, ◌<◌, ◌^◌, List};
+ghost use Rattle.ns_types.specs.declared.event.Bound.{Bound};
+ghost use Rattle.ns_types.specs.declared.turn.Start.{Start};
+ghost use Rattle.ns_types.specs.declared.turn.Turn.{Turn};
+ghost use Rattle.ns_types.specs.Bounds.{IsWithin, Extends};
 ghost use Rattle.ns_turns.specs.Refines.{Refines, Only};
+ghost use Rattle.ns_turns.specs.TwoWorlds.{TwoWorlds};
 ghost use Rattle.constant_entry.specs.Code.{rom_bytes};
 ghost use Rattle.constant_entry.specs.Shows.{ShowsConstant};
 ghost use Rattle.constant_entry.specs.Meaning.{enters_first, constant_run};
@@ -15,4 +20,14 @@ pub fn first_call()
 pub fn refinement()
     ensures does { (n : ℕ) → n < 2 ^ 32 → Refines (rom_bytes n) enters_first (constant_run n) }
     ensures only { (n : ℕ) → n < 2 ^ 32 → Only (rom_bytes n) enters_first (constant_run n) }
+{}
+
+/// Two starts of which the program declares the same look the same to the caller.
+pub fn two_worlds()
+    ensures { (n : ℕ) → n < 2 ^ 32 → TwoWorlds (rom_bytes n) enters_first (constant_run n) }
+{}
+
+/// A larger bound only lets the program go further.
+pub fn larger_bound()
+    ensures { (n : ℕ) (start : Start) (ts : List Turn) (a b : Bound) → IsWithin a b → Extends (constant_run n start ts a) (constant_run n start ts b) }
 {}

@@ -1,7 +1,8 @@
 -- The machine has one run, so what holds for some number of steps at each bound says what each number of steps shows.
-use Rattle.std.proofs.Common.{◌≡◌, ◌≢◌, ℕ, suc, ◌≤◌, ◌⊎◌, Bool, true, false, List, [], ◌∷◌, ◌++◌, refl, sym, ap, ◌∙◌, ⊎_elim, inl, inr, arith, append_assoc, Option}
+use Rattle.std.proofs.Common.{◌≡◌, ◌≢◌, ℕ, suc, ◌≤◌, ◌⊎◌, Bool, true, false, List, [], ◌∷◌, ◌++◌, refl, sym, ap, ◌∙◌, ⊎_elim, inl, inr, arith, Option}
 use Rattle.std.specs.Prelude.{min, ◌&&◌}
 use Rattle.std.proofs.lemmas.Bool.{cases_lt}
+use Rattle.std.proofs.lemmas.List.{append-nil}
 use Rattle.cm_base.specs.declared.stop.Stop.TheVariants.{StackLimit}
 use Rattle.ns_types.specs.declared.event.Event.{Event}
 use Rattle.ns_types.specs.declared.event.Event.TheVariants as event
@@ -12,24 +13,22 @@ use Rattle.ns_types.specs.declared.event.Bound.{Bound}
 use Rattle.ns_types.specs.declared.turn.Turn.{Turn}
 use Rattle.ns_types.specs.declared.turn.Start.{Start}
 use Rattle.ns_types.specs.CRun.{Run}
+use Rattle.ns_types.proofs.BoundLaws.{front_trans}
 use Rattle.v8m_core.specs.Reset.{reset_of}
 use Rattle.ns_turns.specs.Run.{machine_run}
-use Rattle.ns_turns.specs.Prefix.{IsFront}
+use Rattle.ns_turns.specs.GoesOn.{GoesOn}
+use Rattle.ns_types.specs.Prefix.{IsFront}
 use Rattle.ns_turns.specs.Refines.{seen_of, Same, OutOfRoom, room, Refines, is_clean_event, is_clean, OnlyShows, Only}
-use Rattle.ns_turns.proofs.RunLaws.{GoesOn, run_goes}
-
-append_none : {X : Type 0} (xs : List X) → xs ++ [] ≡ xs
-append_none [] = refl
-append_none (x ∷ xs) = ap (λ l. x ∷ l) (append_none xs)
+use Rattle.ns_turns.proofs.RunLaws.{run_goes}
 
 -- whether a run is spent
-is_spent : (e : End) → (e ≡ end.Spent) ⊎ (e ≢ end.Spent)
+pub is_spent : (e : End) → (e ≡ end.Spent) ⊎ (e ≢ end.Spent)
 is_spent end.Spent = inl refl
 is_spent end.Stopped = inr (λ h. cc)
 is_spent end.Waiting = inr (λ h. cc)
 
 -- a front of a list with one more event is a front of the list, or all
-front_or_all : (xs ys : List Event) (y : Event) → IsFront xs (ys ++ y ∷ []) → IsFront xs ys ⊎ (xs ≡ ys ++ y ∷ [])
+pub front_or_all : (xs ys : List Event) (y : Event) → IsFront xs (ys ++ y ∷ []) → IsFront xs ys ⊎ (xs ≡ ys ++ y ∷ [])
 front_or_all [] ys y f = inl (ys, refl)
 front_or_all (x ∷ []) [] y f = inr (let e : x ∷ f.0 ≡ y ∷ [] = f.1 in let h : x ≡ y = cc in ap (λ z. z ∷ []) h)
 front_or_all (x ∷ x' ∷ xs) [] y f = absurd (let e : x ∷ x' ∷ (xs ++ f.0) ≡ y ∷ [] = f.1 in cc)
@@ -41,9 +40,6 @@ front_or_all (x ∷ xs) (z ∷ ys) y f =
     (λ g. inl (g.0, ap (λ l. l ∷ (xs ++ g.0)) same ∙ ap (λ l. z ∷ l) g.1))
     (λ g. inr (ap (λ l. l ∷ xs) same ∙ ap (λ l. z ∷ l) g))
     (front_or_all xs ys y (f.0, rest))
-
-front_trans : (xs ys zs : List Event) → IsFront xs ys → IsFront ys zs → IsFront xs zs
-front_trans xs ys zs f g = (f.0 ++ g.0, sym (append_assoc xs f.0 g.0) ∙ ap (λ l. l ++ g.0) f.1 ∙ g.1)
 
 and_parts : (a b : Bool) → (a && b) ≡ true → (a ≡ true) × (b ≡ true)
 and_parts true b h = (refl, h)
@@ -93,7 +89,7 @@ only_from_refines rom enters run refines clean start whole ts n = (b, ⊎_elim s
     Out = OnlyShows mn seen c
 
     whole_list : mn.list ≡ seen → (mn.end ≡ end.Waiting → c.end ≡ end.Waiting) → Out
-    whole_list e w = record { before = seen; list = inl e; front = ([], append_none seen); clean = clean start ts b; waits = λ h. (w h, e) }
+    whole_list e w = record { before = seen; list = inl e; front = ([], append-nil seen); clean = clean start ts b; waits = λ h. (w h, e) }
 
     same_case : Same mk seen c (min b.turns b.deep) k → Out
     same_case s =

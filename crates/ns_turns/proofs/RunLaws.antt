@@ -12,7 +12,8 @@ use Rattle.v8m_core.specs.Step.{Done, went, step_of, turn_of}
 use Rattle.v8m_core.specs.Code.{Comes}
 use Rattle.v8m_core.proofs.Runs.{stays}
 use Rattle.ns_turns.specs.Run.{event_of, ends, after, next_of, run_of}
-use Rattle.ns_turns.specs.Prefix.{IsFront}
+use Rattle.ns_types.specs.Prefix.{IsFront}
+use Rattle.ns_turns.specs.GoesOn.{GoesOn}
 
 -- one step in Secure state
 pub run_step : (rom : List ℕ) (n : ℕ) (ts : List Turn) (s : State) (d : Done) → s.cpu.side ≡ Secure → step_of rom s ≡ d → run_of rom (suc n) ts s ≡ after d (run_of rom n ts d.state)
@@ -45,11 +46,6 @@ run_comes rom (suc k) n ts s t side c =
 pub comes_secure : (rom : List ℕ) (k : ℕ) (s t : State) → s.cpu.side ≡ Secure → Comes rom k s t → t.cpu.side ≡ Secure
 comes_secure rom zero s t side c = ap (λ (x : State). x.cpu.side) (sym c) ∙ side
 comes_secure rom (suc k) s t side c = comes_secure rom k c.0 t (stays rom s c.0 side c.1) c.2
-
--- More steps only add events, and a run that is over stays so.
-pub record GoesOn (a b : Events) : Type 0 where
-  pub front : IsFront a.list b.list
-  pub over : a.end ≢ end.Spent → b ≡ a
 
 same_goes : (a : Events) → GoesOn a a
 same_goes a = record { front = ([], append_nil a.list); over = λ ne. refl }

@@ -1,4 +1,6 @@
 pub mod Run
-pub mod Prefix
+pub mod GoesOn
 pub mod Refines
 pub mod Advance
+pub mod Moments
+pub mod TwoWorlds

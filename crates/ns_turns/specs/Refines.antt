@@ -13,7 +13,7 @@ use Rattle.ns_types.specs.CRun.{Run}
 use Rattle.ns_types.specs.Show.{show, events_shown}
 use Rattle.v8m_mem.specs.Rows.{IsStart}
 use Rattle.ns_turns.specs.Run.{machine_run}
-use Rattle.ns_turns.specs.Prefix.{IsFront}
+use Rattle.ns_types.specs.Prefix.{IsFront}
 
 -- what the caller sees of a run
 abbrev pub seen_of : (ℕ → Option ℕ) → Run → List Event

@@ -31,7 +31,7 @@ after d rest = record { list = event_of d.what ++ rest.list; end = rest.end }
 
 -- The tests before a step, in their order: a stopped machine, no turn left for Non-secure code, no step left.
 -- play takes a turn, step an instruction, and spent is what no step left makes of them.
-abbrev pub next_of : {R : Type 0} → (End → R) → (Turn → List Turn → R) → R → Side → List Turn → R
+abbrev pub next_of {ℓ} : {R : Type ℓ} → (End → R) → (Turn → List Turn → R) → R → Side → List Turn → R
 next_of over play step (Stopped x) ts = over end.Stopped
 next_of over play step NonSecure [] = over end.Waiting
 next_of over play step NonSecure (t ∷ ts) = play t ts

@@ -1,6 +1,15 @@
+pub mod Prefix
 pub mod State
 pub mod Platform
 pub mod Memory
 pub mod Boundary
+pub mod Operators
+pub mod Access
+pub mod Range
 pub mod CRun
+pub mod Bounds
 pub mod Show
+pub mod Ram
+pub mod Sight
+pub mod Declares
+pub mod Marks

@@ -4,6 +4,7 @@
 
 mod event;
 mod goes;
+pub mod laws;
 mod state;
 mod turn;
 

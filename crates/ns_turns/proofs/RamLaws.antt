@@ -1,0 +1,260 @@
+-- Non-secure RAM at each hand-over is what the start, the turns and the events before make of it.
+use Rattle.std.proofs.Common.{◌≡◌, ℕ, zero, suc, ◌+◌, ◌-◌, Bool, true, false, cond, map, List, [], ◌∷◌, ◌++◌, refl, sym, ap, ◌∙◌, subst, arith, Option, Some, None}
+use Rattle.std.specs.Prelude.{not, eqb, ◌&&◌}
+use Rattle.std.proofs.lemmas.Bool.Decides.{nat_tests}
+use Rattle.cm_base.specs.declared.stop.Stop.{Stop}
+use Rattle.cm_base.specs.declared.stop.Stop.TheVariants as stop
+use Rattle.ns_types.specs.declared.goes.Goes.{Goes}
+use Rattle.ns_types.specs.declared.goes.Goes.TheVariants as goes
+use Rattle.ns_types.specs.declared.event.Event.{Event}
+use Rattle.ns_types.specs.declared.event.Event.TheVariants as event
+use Rattle.ns_types.specs.declared.event.End.TheVariants as end
+use Rattle.ns_types.specs.declared.event.Events.{Events}
+use Rattle.ns_types.specs.declared.state.Side.{Side}
+use Rattle.ns_types.specs.declared.state.Side.TheVariants.{Secure, NonSecure, Stopped}
+use Rattle.ns_types.specs.declared.turn.Item.{Item}
+use Rattle.ns_types.specs.declared.turn.Turn.{Turn}
+use Rattle.ns_types.specs.declared.turn.Start.{Start}
+use Rattle.ns_types.specs.State.{State}
+use Rattle.ns_types.specs.Platform.{row, lies_in, aligned}
+use Rattle.ns_types.specs.Memory.{put_number, load}
+use Rattle.ns_types.specs.Boundary.{Acted, acted, acted_or, item_stop, with_item}
+use Rattle.ns_types.specs.Ram.{is_turn, crosses, with_items, Moved, crossed, ram_at, AreSecure}
+use Rattle.ns_types.proofs.Crossings.{ram_same}
+use Rattle.v8m_core.specs.declared.stepped.Stepped.{Stepped}
+use Rattle.v8m_core.specs.declared.stepped.Stepped.TheVariants as what
+use Rattle.v8m_core.specs.Step.{Done, went, stopped, unless, fetched, is_gateway, gateway_at, goes_in, handed, entered, returned, return_stop, return_to, arrived, turned, step_of, turn_of}
+use Rattle.v8m_core.specs.Reset.{reset_of}
+use Rattle.v8m_core.proofs.Runs.{stays}
+use Rattle.ns_turns.specs.Run.{event_of, ends, after, next_of, run_of, machine_run}
+use Rattle.ns_turns.specs.Moments.{Moment, moments_of, moments, events_in, given_ram, is_write, Tells, AllTell, KnowsRam}
+use Rattle.ns_turns.proofs.RunLaws.{run_step, run_turn, run_waits}
+use Rattle.ns_turns.proofs.Tell.{Leads, told, tells}
+
+-- How both go on, by who runs
+
+moments_step : (rom : List ℕ) (n : ℕ) (ts : List Turn) (s : State) → s.cpu.side ≡ Secure → moments rom (suc n) ts s ≡ moments_of (step_of rom s) ++ moments rom n ts (step_of rom s).state
+unfolding moments
+moments_step rom n ts s side =
+    ap (λ x. next_of (λ e. []) (λ t rest. moments_of (turn_of rom t s) ++ moments rom n rest (turn_of rom t s).state) (moments_of (step_of rom s) ++ moments rom n ts (step_of rom s).state) x ts) side
+
+moments_turn : (rom : List ℕ) (n : ℕ) (t : Turn) (ts : List Turn) (s : State) → s.cpu.side ≡ NonSecure → moments rom (suc n) (t ∷ ts) s ≡ moments_of (turn_of rom t s) ++ moments rom n ts (turn_of rom t s).state
+unfolding moments
+moments_turn rom n t ts s side =
+    ap (λ x. next_of (λ e. []) (λ t rest. moments_of (turn_of rom t s) ++ moments rom n rest (turn_of rom t s).state) (moments_of (step_of rom s) ++ moments rom n (t ∷ ts) (step_of rom s).state) x (t ∷ ts)) side
+
+moments_waits : (rom : List ℕ) (n : ℕ) (s : State) → s.cpu.side ≡ NonSecure → moments rom n [] s ≡ []
+unfolding moments
+moments_waits rom zero s side = refl
+moments_waits rom (suc n) s side =
+    ap (λ x. next_of (λ e. []) (λ t rest. moments_of (turn_of rom t s) ++ moments rom n rest (turn_of rom t s).state) (moments_of (step_of rom s) ++ moments rom n [] (step_of rom s).state) x []) side
+
+moments_stopped : (rom : List ℕ) (n : ℕ) (ts : List Turn) (s : State) (x : Stop) → s.cpu.side ≡ Stopped x → moments rom n ts s ≡ []
+unfolding moments
+moments_stopped rom zero ts s x side = refl
+moments_stopped rom (suc n) ts s x side =
+    ap (λ y. next_of (λ e. []) (λ t rest. moments_of (turn_of rom t s) ++ moments rom n rest (turn_of rom t s).state) (moments_of (step_of rom s) ++ moments rom n ts (step_of rom s).state) y ts) side
+
+pub run_is_over : (rom : List ℕ) (n : ℕ) (ts : List Turn) (s : State) (x : Stop) → s.cpu.side ≡ Stopped x → run_of rom n ts s ≡ ends end.Stopped
+unfolding run_of
+run_is_over rom zero ts s x side = ap (λ y. next_of ends (λ t rest. ends end.Spent) (ends end.Spent) y ts) side
+run_is_over rom (suc n) ts s x side =
+    ap (λ y. next_of ends (λ t rest. after (turn_of rom t s) (run_of rom n rest (turn_of rom t s).state)) (after (step_of rom s) (run_of rom n ts (step_of rom s).state)) y ts) side
+
+no_event : (rom : List ℕ) (ts : List Turn) (s : State) → (run_of rom zero ts s).list ≡ []
+unfolding run_of
+no_event rom ts s = by s.cpu.side ts
+  where
+    by : (x : Side) (ts : List Turn) → (next_of ends (λ t rest. ends end.Spent) (ends end.Spent) x ts).list ≡ []
+    by Secure ts = refl
+    by NonSecure [] = refl
+    by NonSecure (t ∷ ts) = refl
+    by (Stopped x) ts = refl
+
+no_moment : (rom : List ℕ) (ts : List Turn) (s : State) → moments rom zero ts s ≡ []
+unfolding moments
+no_moment rom ts s = refl
+
+tell_step : (rom : List ℕ) (n : ℕ) (ts : List Turn) (s : State) → s.cpu.side ≡ Secure → AllTell rom (suc n) ts s → Tells rom s × AllTell rom n ts (step_of rom s).state
+unfolding AllTell
+tell_step rom n ts s side h =
+    subst (λ x. next_of (λ e. Unit {0}) (λ t rest. AllTell rom n rest (turn_of rom t s).state) (Tells rom s × AllTell rom n ts (step_of rom s).state) x ts) side h
+
+tell_turn : (rom : List ℕ) (n : ℕ) (t : Turn) (ts : List Turn) (s : State) → s.cpu.side ≡ NonSecure → AllTell rom (suc n) (t ∷ ts) s → AllTell rom n ts (turn_of rom t s).state
+unfolding AllTell
+tell_turn rom n t ts s side h =
+    subst (λ x. next_of (λ e. Unit {0}) (λ t rest. AllTell rom n rest (turn_of rom t s).state) (Tells rom s × AllTell rom n (t ∷ ts) (step_of rom s).state) x (t ∷ ts)) side h
+
+-- all instructions of the table do
+pub all_tell : (rom : List ℕ) (n : ℕ) (ts : List Turn) (s : State) → AllTell rom n ts s
+unfolding AllTell
+all_tell rom zero ts s = tt
+all_tell rom (suc n) ts s = by (all_tell rom n) s.cpu.side refl ts
+  where
+    by : ((us : List Turn) (t : State) → AllTell rom n us t) → (x : Side) → s.cpu.side ≡ x → (us : List Turn) → next_of (λ e. Unit {0}) (λ t rest. AllTell rom n rest (turn_of rom t s).state) (Tells rom s × AllTell rom n ts (step_of rom s).state) x us
+    by rest Secure side us = (tells rom s side, rest ts (step_of rom s).state)
+    by rest NonSecure side [] = tt
+    by rest NonSecure side (t ∷ us) = rest us (turn_of rom t s).state
+    by rest (Stopped x) side us = tt
+
+-- The events of the moments
+
+events_of_step : (d : Done) (ms : List Moment) (es : List Event) → events_in ms ≡ es → events_in (moments_of d ++ ms) ≡ event_of d.what ++ es
+events_of_step d ms es e = by d.what
+  where
+    by : (w : Stepped) → events_in (map (λ e. record { event = e; ram = d.state.memory.ns_ram }) (event_of w) ++ ms) ≡ event_of w ++ es
+    by what.Went = e
+    by (what.Wrote a n v) = ap (λ l. event.Wrote a n v ∷ l) e
+    by (what.Given view) = ap (λ l. event.Given view ∷ l) e
+    by (what.Stopped x) = ap (λ l. event.Stopped x ∷ l) e
+
+pub moments_events : (rom : List ℕ) (n : ℕ) (ts : List Turn) (s : State) → events_in (moments rom n ts s) ≡ (run_of rom n ts s).list
+moments_events rom zero ts s = ap events_in (no_moment rom ts s) ∙ sym (no_event rom ts s)
+moments_events rom (suc n) ts s = by (moments_events rom n) s.cpu.side refl ts refl
+  where
+    by : ((us : List Turn) (t : State) → events_in (moments rom n us t) ≡ (run_of rom n us t).list) → (x : Side) → s.cpu.side ≡ x → (us : List Turn) → ts ≡ us → events_in (moments rom (suc n) ts s) ≡ (run_of rom (suc n) ts s).list
+    by rest Secure side us e =
+        ap events_in (moments_step rom n ts s side)
+        ∙ events_of_step (step_of rom s) _ _ (rest ts (step_of rom s).state)
+        ∙ sym (ap (λ (x : Events). x.list) (run_step rom n ts s (step_of rom s) side refl))
+    by rest NonSecure side [] e =
+        ap (λ l. events_in (moments rom (suc n) l s)) e
+        ∙ ap events_in (moments_waits rom (suc n) s side)
+        ∙ sym (ap (λ (x : Events). x.list) (run_waits rom (suc n) s side))
+        ∙ sym (ap (λ l. (run_of rom (suc n) l s).list) e)
+    by rest NonSecure side (t ∷ us) e =
+        ap (λ l. events_in (moments rom (suc n) l s)) e
+        ∙ ap events_in (moments_turn rom n t us s side)
+        ∙ events_of_step (turn_of rom t s) _ _ (rest us (turn_of rom t s).state)
+        ∙ sym (ap (λ (x : Events). x.list) (run_turn rom n t us s (turn_of rom t s) side refl))
+        ∙ sym (ap (λ l. (run_of rom (suc n) l s).list) e)
+    by rest (Stopped x) side us e =
+        ap events_in (moments_stopped rom (suc n) ts s x side) ∙ sym (ap (λ (x : Events). x.list) (run_is_over rom (suc n) ts s x side))
+
+-- The items of a turn that isn't stopped
+
+acted_cases : (o : Option Stop) (ram : List ℕ) (rest : Acted) → (acted_or o ram rest).stop ≡ None → (acted_or o ram rest).ram ≡ rest.ram
+acted_cases None ram rest e = refl
+acted_cases (Some x) ram rest e = cc
+
+acted_more : (o : Option Stop) (ram : List ℕ) (rest : Acted) → (acted_or o ram rest).stop ≡ None → rest.stop ≡ None
+acted_more None ram rest e = e
+acted_more (Some x) ram rest e = cc
+
+acted_all : (items : List Item) (ram : List ℕ) → (acted items ram).stop ≡ None → (acted items ram).ram ≡ with_items items ram
+acted_all [] ram e = refl
+acted_all (i ∷ items) ram e =
+    let rest = acted items (with_item i ram) in
+    acted_cases (item_stop i) ram rest e ∙ acted_all items (with_item i ram) (acted_more (item_stop i) ram rest e)
+
+-- Non-secure RAM
+
+-- the turns and the memory from which the hand-overs are counted: for Non-secure code those after its next crossing
+abbrev from : List ℕ → Side → List Turn → List ℕ → Moved
+from rom Secure ts ram = record { turns = ts; ram = ram }
+from rom NonSecure ts ram = crossed (gateway_at rom) ts ram
+from rom (Stopped x) ts ram = record { turns = ts; ram = ram }
+
+module _ (rom : List ℕ) (n : ℕ) (ts : List Turn) where
+  -- what the rest of a run from t gives at its k-th hand-over, counted from these turns and this memory
+  abbrev Counts : State → ℕ → Moved → Type 0
+  Counts t k m = given_ram (moments rom n ts t) k ≡ ram_at (gateway_at rom) (run_of rom n ts t).list k m.turns m.ram
+
+  counts_from : (t : State) (k : ℕ) (x : Side) → t.cpu.side ≡ x → (ram : List ℕ) → t.memory.ns_ram ≡ ram → Counts t k (from rom t.cpu.side ts t.memory.ns_ram) → Counts t k (from rom x ts ram)
+  counts_from t k x side ram same h =
+      subst (λ r. Counts t k (from rom x ts r)) same (subst (λ y. Counts t k (from rom y ts t.memory.ns_ram)) side h)
+
+  -- the same where a step has led to t
+  abbrev CountsAfter : Done → ℕ → Moved → Type 0
+  CountsAfter d k m = given_ram (moments_of d ++ moments rom n ts d.state) k ≡ ram_at (gateway_at rom) (event_of d.what ++ (run_of rom n ts d.state).list) k m.turns m.ram
+
+  counts_over : (x : Stop) (t : State) (k : ℕ) (m : Moved) → CountsAfter (stopped x t) k m
+  counts_over x t k m =
+      ap (λ l. given_ram l k) (moments_stopped rom n ts (stopped x t).state x refl)
+      ∙ sym (ap (λ (l : Events). ram_at (gateway_at rom) l.list k m.turns m.ram) (run_is_over rom n ts (stopped x t).state x refl))
+
+  counts_step : (s t : State) (w : Stepped) → Leads w s t → (is_write w ≡ false → t.memory.ns_ram ≡ s.memory.ns_ram) → (w ≡ what.Went → t.cpu.side ≡ Secure) → ((k : ℕ) → Counts t k (from rom t.cpu.side ts t.memory.ns_ram)) → (k : ℕ) → CountsAfter (record { state = t; what = w }) k (record { turns = ts; ram = s.memory.ns_ram })
+  counts_step s t what.Went leads same side h k = counts_from t k Secure (side refl) s.memory.ns_ram (same refl) (h k)
+  counts_step s t (what.Wrote a size v) leads same side h k = counts_from t k Secure leads.0 (put_number size s.memory.ns_ram (a - (row 1).from) v) leads.1 (h k)
+  counts_step s t (what.Given view) leads same side h zero = ap Some (same refl)
+  counts_step s t (what.Given view) leads same side h (suc k) = counts_from t k NonSecure leads s.memory.ns_ram (same refl) (h k)
+  counts_step s t (what.Stopped x) leads same side h k =
+      ap (λ l. given_ram l k) (moments_stopped rom n ts t x leads)
+      ∙ sym (ap (λ (l : Events). ram_at (gateway_at rom) l.list k ts s.memory.ns_ram) (run_is_over rom n ts t x leads))
+
+  -- a turn's branch, where its items have left u
+  counts_branch : (t : Turn) (ram : List ℕ) (u : State) → u.memory.ns_ram ≡ with_items t.items ram → (g : Goes) → goes_in rom t.target ≡ g → ((v : State) → AllTell rom n ts v → (k : ℕ) → Counts v k (from rom v.cpu.side ts v.memory.ns_ram)) → (k : ℕ) → AllTell rom n ts (arrived rom g (aligned 2 t.target) what.Went u).state → CountsAfter (arrived rom g (aligned 2 t.target) what.Went u) k (crossed (gateway_at rom) (t ∷ ts) ram)
+  unfolding goes_in return_to
+  counts_branch t ram u same g e h k tell = by g (ap (λ x. not (is_turn x)) e) tell
+    where
+      next : List ℕ
+      next = with_items t.items ram
+
+      moved : Bool → Moved
+      moved b = cond b (record { turns = ts; ram = next }) (crossed (gateway_at rom) ts next)
+
+      is_moved : (b : Bool) → crosses (gateway_at rom) t ≡ b → crossed (gateway_at rom) (t ∷ ts) ram ≡ moved b
+      is_moved b q = ap moved q
+
+      back : (o : Option Stop) (a : ℕ) → AllTell rom n ts (unless o u (went (returned a u))).state → CountsAfter (unless o u (went (returned a u))) k (moved true)
+      back None a tells = counts_from (returned a u) k Secure refl next same (h (returned a u) tells k)
+      back (Some x) a tells = counts_over x u k (moved true)
+
+      at_moved : (x : Goes) → AllTell rom n ts (arrived rom x (aligned 2 t.target) what.Went u).state → CountsAfter (arrived rom x (aligned 2 t.target) what.Went u) k (moved (not (is_turn x)))
+      at_moved goes.Turn tells = counts_from (handed (aligned 2 t.target) u) k NonSecure refl next same (h (handed (aligned 2 t.target) u) tells k)
+      at_moved (goes.Enter a) tells = counts_from (entered a u) k Secure refl next same (h (entered a u) tells k)
+      at_moved goes.Return tells = back (return_stop rom u) (aligned 2 (load 4 u.cpu.regs.sp rom u.memory)) tells
+      at_moved goes.EntryPoint tells = counts_over stop.EntryPoint u k (moved true)
+      at_moved goes.Astray tells = counts_over stop.Astray u k (moved true)
+
+      by : (x : Goes) → crosses (gateway_at rom) t ≡ not (is_turn x) → AllTell rom n ts (arrived rom x (aligned 2 t.target) what.Went u).state → CountsAfter (arrived rom x (aligned 2 t.target) what.Went u) k (crossed (gateway_at rom) (t ∷ ts) ram)
+      by x q tells = subst (λ m. CountsAfter (arrived rom x (aligned 2 t.target) what.Went u) k m) (sym (is_moved (not (is_turn x)) q)) (at_moved x tells)
+
+  -- a turn
+  counts_turn : (t : Turn) (s : State) → ((v : State) → AllTell rom n ts v → (k : ℕ) → Counts v k (from rom v.cpu.side ts v.memory.ns_ram)) → (k : ℕ) → AllTell rom n ts (turn_of rom t s).state → CountsAfter (turn_of rom t s) k (crossed (gateway_at rom) (t ∷ ts) s.memory.ns_ram)
+  unfolding turn_of
+  counts_turn t s h k tell = by (acted t.items s.memory.ns_ram).stop refl tell
+    where
+      u : State
+      u = turned t (acted t.items s.memory.ns_ram).ram s
+
+      by : (o : Option Stop) → (acted t.items s.memory.ns_ram).stop ≡ o → AllTell rom n ts (unless o u (arrived rom (goes_in rom t.target) (aligned 2 t.target) what.Went u)).state → CountsAfter (unless o u (arrived rom (goes_in rom t.target) (aligned 2 t.target) what.Went u)) k (crossed (gateway_at rom) (t ∷ ts) s.memory.ns_ram)
+      by None e tells = counts_branch t s.memory.ns_ram u (acted_all t.items s.memory.ns_ram e) (goes_in rom t.target) refl h k tells
+      by (Some x) e tells = counts_over x u k (crossed (gateway_at rom) (t ∷ ts) s.memory.ns_ram)
+
+-- at most n steps from a state
+counts : (rom : List ℕ) (n : ℕ) (ts : List Turn) (s : State) → AllTell rom n ts s → (k : ℕ) → given_ram (moments rom n ts s) k ≡ (let m = from rom s.cpu.side ts s.memory.ns_ram in ram_at (gateway_at rom) (run_of rom n ts s).list k m.turns m.ram)
+counts rom zero ts s tell k =
+    let m = from rom s.cpu.side ts s.memory.ns_ram in
+    ap (λ l. given_ram l k) (no_moment rom ts s) ∙ sym (ap (λ l. ram_at (gateway_at rom) l k m.turns m.ram) (no_event rom ts s))
+counts rom (suc n) ts s tell k = by (counts rom n) s.cpu.side refl ts tell
+  where
+    by : ((us : List Turn) (t : State) → AllTell rom n us t → (k : ℕ) → Counts rom n us t k (from rom t.cpu.side us t.memory.ns_ram)) → (x : Side) → s.cpu.side ≡ x → (us : List Turn) → AllTell rom (suc n) us s → Counts rom (suc n) us s k (from rom x us s.memory.ns_ram)
+    by rest Secure side us t =
+        let two = tell_step rom n us s side t in
+        let d = step_of rom s in
+        ap (λ l. given_ram l k) (moments_step rom n us s side)
+        ∙ counts_step rom n us s d.state d.what (told rom s side).leads two.0 (λ e. stays rom s d.state side (ap (λ w. record { state = d.state; what = w }) e)) (rest us d.state two.1) k
+        ∙ sym (ap (λ (x : Events). ram_at (gateway_at rom) x.list k us s.memory.ns_ram) (run_step rom n us s d side refl))
+    by rest NonSecure side [] t =
+        ap (λ l. given_ram l k) (moments_waits rom (suc n) s side)
+        ∙ sym (ap (λ (x : Events). ram_at (gateway_at rom) x.list k [] s.memory.ns_ram) (run_waits rom (suc n) s side))
+    by rest NonSecure side (u ∷ us) t =
+        let m = crossed (gateway_at rom) (u ∷ us) s.memory.ns_ram in
+        ap (λ l. given_ram l k) (moments_turn rom n u us s side)
+        ∙ counts_turn rom n us u s (rest us) k (tell_turn rom n u us s side t)
+        ∙ sym (ap (λ (x : Events). ram_at (gateway_at rom) x.list k m.turns m.ram) (run_turn rom n u us s (turn_of rom u s) side refl))
+    by rest (Stopped x) side us t =
+        ap (λ l. given_ram l k) (moments_stopped rom (suc n) us s x side)
+        ∙ sym (ap (λ (y : Events). ram_at (gateway_at rom) y.list k us s.memory.ns_ram) (run_is_over rom (suc n) us s x side))
+
+-- no gateway stands in Non-secure memory
+gateways_secure : (rom : List ℕ) → AreSecure (gateway_at rom)
+unfolding is_gateway
+gateways_secure rom = record { by = λ a h. let out : lies_in 3 a 4 ≡ false = grind (arith, nat_tests) in ap (λ b. cond (b && (eqb (fetched rom a) 59775 && eqb (fetched rom (a + 2)) 59775)) (Some a) None) out }
+
+pub knows_ram : (rom : List ℕ) (enters : ℕ → Option ℕ) → AreSecure enters → (start : Start) (ts : List Turn) (n : ℕ) → AllTell rom n ts (reset_of rom start) → KnowsRam rom enters start ts n
+knows_ram rom enters h start ts n tell = record {
+  events = moments_events rom n ts (reset_of rom start);
+  ram = λ k. counts rom n ts (reset_of rom start) tell k ∙ ram_same (gateway_at rom) enters (gateways_secure rom) h (machine_run rom start ts n).list k ts start.ns_ram;
+}

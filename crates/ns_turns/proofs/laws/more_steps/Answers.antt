@@ -1,0 +1,6 @@
+use Rattle.v8m_core.specs.Reset.{reset_of}
+use Rattle.ns_turns.proofs.RunLaws.{run_goes}
+use Rattle.ns_turns.proofs.laws.more_steps.Goals as goal
+
+pub returns : goal.returns
+returns c rom start ts n m le = run_goes rom n m ts (reset_of rom start) le

@@ -1,0 +1,69 @@
+-- Non-secure RAM at the hand-overs of a run of the machine.
+use Rattle.std.specs.Prelude.{◌≡◌, ℕ, zero, suc, Bool, true, false, map, List, [], ◌∷◌, ◌++◌, Option, Some, None}
+use Rattle.ns_types.specs.declared.event.Event.{Event}
+use Rattle.ns_types.specs.declared.event.Event.TheVariants as event
+use Rattle.ns_types.specs.declared.turn.Turn.{Turn}
+use Rattle.ns_types.specs.declared.turn.Start.{Start}
+use Rattle.ns_types.specs.State.{State}
+use Rattle.ns_types.specs.Ram.{ram_at}
+use Rattle.v8m_core.specs.declared.stepped.Stepped.{Stepped}
+use Rattle.v8m_core.specs.declared.stepped.Stepped.TheVariants as what
+use Rattle.v8m_core.specs.Step.{Done, step_of, turn_of}
+use Rattle.v8m_core.specs.Reset.{reset_of}
+use Rattle.ns_turns.specs.Run.{event_of, next_of, machine_run}
+
+-- an event, and Non-secure RAM right after the step that it belongs to
+pub record Moment : Type 0 where
+  pub event : Event
+  pub ram : List ℕ
+
+abbrev pub moments_of : Done → List Moment
+moments_of d = map (λ e. record { event = e; ram = d.state.memory.ns_ram }) (event_of d.what)
+
+-- those of at most n steps from a state
+unfoldable pub moments : List ℕ → ℕ → List Turn → State → List Moment
+moments rom zero ts s = []
+moments rom (suc n) ts s =
+    next_of (λ e. []) (λ t rest. moments_of (turn_of rom t s) ++ moments rom n rest (turn_of rom t s).state)
+    (moments_of (step_of rom s) ++ moments rom n ts (step_of rom s).state)
+    s.cpu.side
+    ts
+
+abbrev pub machine_moments : List ℕ → Start → List Turn → ℕ → List Moment
+machine_moments rom start ts n = moments rom n ts (reset_of rom start)
+
+abbrev pub events_in : List Moment → List Event
+events_in ms = map (λ m. m.event) ms
+
+abbrev pub given_or : Event → List ℕ → (ℕ → Option (List ℕ)) → ℕ → Option (List ℕ)
+given_or (event.Given view) ram rest zero = Some ram
+given_or (event.Given view) ram rest (suc k) = rest k
+given_or (event.Wrote at size value) ram rest k = rest k
+given_or (event.Stopped stop) ram rest k = rest k
+
+-- Non-secure RAM at the k-th hand-over, counted from 0, if there is one
+abbrev pub given_ram : List Moment → ℕ → Option (List ℕ)
+given_ram [] k = None
+given_ram (m ∷ ms) k = given_or m.event m.ram (given_ram ms) k
+
+abbrev pub is_write : Stepped → Bool
+is_write what.Went = false
+is_write (what.Wrote at size value) = true
+is_write (what.Given view) = false
+is_write (what.Stopped stop) = false
+
+-- The instruction at the program counter tells what it writes into Non-secure RAM: where no event says so it leaves that
+-- memory. Words that a push or a Non-secure call stacks there would be written without an event.
+abbrev pub Tells : List ℕ → State → Type 0
+Tells rom s = is_write (step_of rom s).what ≡ false → (step_of rom s).state.memory.ns_ram ≡ s.memory.ns_ram
+
+-- each instruction of at most n steps from a state does
+unfoldable pub AllTell : List ℕ → ℕ → List Turn → State → Type 0
+AllTell rom zero ts s = Unit {0}
+AllTell rom (suc n) ts s =
+    next_of (λ e. Unit {0}) (λ t rest. AllTell rom n rest (turn_of rom t s).state) (Tells rom s × AllTell rom n ts (step_of rom s).state) s.cpu.side ts
+
+-- The machine's Non-secure RAM at each hand-over of a run is what the start, the turns and the events before make of it.
+pub record KnowsRam (rom : List ℕ) (enters : ℕ → Option ℕ) (start : Start) (ts : List Turn) (n : ℕ) : Type 0 where
+  pub events : events_in (machine_moments rom start ts n) ≡ (machine_run rom start ts n).list
+  pub ram : (k : ℕ) → given_ram (machine_moments rom start ts n) k ≡ ram_at enters (machine_run rom start ts n).list k ts start.ns_ram

@@ -1,0 +1,46 @@
+//! Laws of runs, for every Secure ROM, start, list of turns and number of steps.
+
+ghost use Rattle.std.specs.Prelude.{◌≡◌, ℕ, suc, ◌≤◌, List, [], ◌∷◌, Option};
+ghost use Rattle.cm_base.specs.declared.stop.Stop.{Stop};
+ghost use Rattle.ns_types.specs.declared.event.Bound.{Bound};
+ghost use Rattle.ns_types.specs.declared.event.End.TheVariants as end;
+ghost use Rattle.ns_types.specs.declared.state.Side.TheVariants as sides;
+ghost use Rattle.ns_types.specs.declared.turn.Start.{Start};
+ghost use Rattle.ns_types.specs.declared.turn.Turn.{Turn};
+ghost use Rattle.ns_types.specs.State.{State};
+ghost use Rattle.ns_types.specs.Ram.{AreSecure};
+ghost use Rattle.ns_types.specs.CRun.{Run};
+ghost use Rattle.v8m_core.specs.Step.{step_of, turn_of};
+ghost use Rattle.v8m_core.specs.Reset.{reset_of};
+ghost use Rattle.ns_turns.specs.Run.{after, ends, run_of, machine_run};
+ghost use Rattle.ns_turns.specs.GoesOn.{GoesOn};
+ghost use Rattle.ns_turns.specs.Moments.{Tells, AllTell, KnowsRam};
+ghost use Rattle.ns_turns.specs.Refines.{Refines};
+ghost use Rattle.ns_turns.specs.TwoWorlds.{TwoWorlds, TellsAll};
+
+/// At each hand-over of a run whose instructions tell what they write, Non-secure RAM is what the start, the turns and
+/// the events before make of it, wherever in Secure memory the entries stand. All instructions of the table do.
+pub fn handed_ram()
+    ensures ram { (rom : List ℕ) (enters : ℕ → Option ℕ) → AreSecure enters → (start : Start) (ts : List Turn) (n : ℕ) → AllTell rom n ts (reset_of rom start) → KnowsRam rom enters start ts n }
+    ensures tells { (rom : List ℕ) (s : State) → s.cpu.side ≡ sides.Secure → Tells rom s }
+    ensures all_tell { (rom : List ℕ) (n : ℕ) (ts : List Turn) (s : State) → AllTell rom n ts s }
+{}
+
+/// Where the machine does what a program does, and what the caller sees of the program follows from its events, two
+/// starts of which the program declares the same look the same to the caller.
+pub fn two_worlds()
+    ensures { (rom : List ℕ) (enters : ℕ → Option ℕ) (run : Start → List Turn → Bound → Run) → Refines rom enters run → TellsAll enters run → TwoWorlds rom enters run }
+{}
+
+/// A caller that drives a machine by single steps and turns sees the events of its run.
+pub fn driven()
+    ensures step { (rom : List ℕ) (n : ℕ) (ts : List Turn) (s : State) → s.cpu.side ≡ sides.Secure → run_of rom (suc n) ts s ≡ after (step_of rom s) (run_of rom n ts (step_of rom s).state) }
+    ensures turn { (rom : List ℕ) (n : ℕ) (t : Turn) (ts : List Turn) (s : State) → s.cpu.side ≡ sides.NonSecure → run_of rom (suc n) (t ∷ ts) s ≡ after (turn_of rom t s) (run_of rom n ts (turn_of rom t s).state) }
+    ensures waits { (rom : List ℕ) (n : ℕ) (s : State) → s.cpu.side ≡ sides.NonSecure → run_of rom n [] s ≡ ends end.Waiting }
+    ensures stopped { (rom : List ℕ) (n : ℕ) (ts : List Turn) (s : State) (x : Stop) → s.cpu.side ≡ sides.Stopped x → run_of rom n ts s ≡ ends end.Stopped }
+{}
+
+/// More steps only add events, and a run that is over stays so.
+pub fn more_steps()
+    ensures { (rom : List ℕ) (start : Start) (ts : List Turn) (n m : ℕ) → n ≤ m → GoesOn (machine_run rom start ts n) (machine_run rom start ts m) }
+{}

@@ -1,0 +1,6 @@
+mod Values
+pub mod Ranges
+pub mod BoundLaws
+pub mod MarkLaws
+pub mod ShowLaws
+pub mod Crossings
