@@ -1,10 +1,10 @@
-//! Prints instructions of every form with fields drawn at random: the halfwords, and the assembly. `bin/check-codes` lets
-//! LLVM's assembler make the halfwords anew.
+//! Prints instructions of every form with fields drawn at random: the halfwords, and the assembly. The first word is where
+//! the draws begin. `bin/check-codes` lets other assemblers make the halfwords anew.
 #![tactic(auto)]
 
 mod text;
 
-use std::io;
+use std::{env, io};
 use text::text_of;
 use v8m_isa::{Code, Instr, encode, in_range};
 
@@ -152,8 +152,18 @@ fn instr_of(form: u32, fields: Fields) -> Instr {
     }
 }
 
+// Where the draws begin: the number in the first word, or 1.
+fn seed_of(rt: &HostRuntime) -> io::Result<u32> {
+    match env::args(rt)?.nth(1) {
+        Some(word) => Ok(word.parse().unwrap_or(1)),
+        None => Ok(1),
+    }
+}
+
 fn main(rt: HostRuntime) -> io::Result<()> {
-    let mut draws = Draws { state: 1 };
+    let mut draws = Draws {
+        state: seed_of(&rt)?,
+    };
     for _round in 0..ROUNDS {
         for form in 0..50 {
             let i = instr_of(form, drawn(&mut draws));
