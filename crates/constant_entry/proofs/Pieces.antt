@@ -1,6 +1,6 @@
 -- The runs of the start code and of an entry that gives a constant.
 use Rattle.std.proofs.Common.{◌≡◌, ℕ, ◌+◌, ◌*◌, ◌/◌, ◌%◌, List, refl, ap, arith}
-use Rattle.v8m_isa.specs.Table.{size_of, opcode_of, row_of}
+use Rattle.v8m_isa.specs.Table.{size_of}
 use Rattle.ns_types.specs.State.{State}
 use Rattle.ns_types.specs.Platform.{is_readable, is_writable}
 use Rattle.ns_types.specs.Memory.{load}
@@ -11,12 +11,12 @@ use Rattle.constant_entry.proofs.States.{sealed, handing, answering}
 use Rattle.v8m_core.proofs.Runs.{straight}
 
 pub seal_runs : (rom : List ℕ) (s : State) → HasCode rom s.cpu.pc stacks_code → Comes rom 22 s (sealed s)
-unfolding size_of opcode_of row_of effect_of apply write_register load_stop store_stop is_readable is_writable
+unfolding size_of effect_of apply write_register load_stop store_stop is_readable is_writable
 seal_runs rom s has = straight rom stacks_code s (sealed s) has
     (_, refl, refl, (_, refl, refl, (_, refl, refl, (_, refl, refl, (_, refl, refl, (_, refl, refl, (_, refl, refl, (_, refl, refl, (_, refl, refl, (_, refl, refl, (_, refl, refl, (_, refl, refl, (_, refl, refl, (_, refl, refl, (_, refl, refl, (_, refl, refl, (_, refl, refl, (_, refl, refl, (_, refl, refl, (_, refl, refl, (_, refl, refl, (_, refl, tt, refl))))))))))))))))))))))
 
 pub hand_runs : (rom : List ℕ) (s : State) → HasCode rom s.cpu.pc hand_code → Comes rom 19 s (handing s)
-unfolding size_of opcode_of row_of effect_of apply write_register load_stop load is_readable
+unfolding size_of effect_of apply write_register load_stop load is_readable
 hand_runs rom s has = straight rom hand_code s (handing s) has
     (_, refl, refl, (_, refl, refl, (_, refl, refl, (_, refl, refl, (_, refl, refl, (_, refl, refl, (_, refl, refl, (_, refl, refl, (_, refl, refl, (_, refl, refl, (_, refl, refl, (_, refl, refl, (_, refl, refl, (_, refl, refl, (_, refl, refl, (_, refl, refl, (_, refl, refl, (_, refl, refl, (_, refl, tt, refl)))))))))))))))))))
 
@@ -25,6 +25,6 @@ halves : (n : ℕ) → 65536 * (n / 65536) + n % 65536 % 65536 ≡ n
 halves n = omega arith
 
 pub answer_runs : (rom : List ℕ) (n : ℕ) (s : State) → HasCode rom s.cpu.pc (entry_front n) → Comes rom 7 s (answering n s)
-unfolding size_of opcode_of row_of effect_of apply write_register
+unfolding size_of effect_of apply write_register
 answer_runs rom n s has = straight rom (entry_front n) s (answering n s) has
     (_, refl, refl, (_, ap (λ v. went (put 4 0 v (put 4 0 (n % 65536) s))) (halves n), refl, (_, refl, refl, (_, refl, refl, (_, refl, refl, (_, refl, refl, (_, refl, tt, refl)))))))

@@ -8,8 +8,7 @@ use Rattle.std.proofs.lemmas.List.Elements.{All-from_recursion}
 use Rattle.std.proofs.lemmas.Bool.{cases_lt}
 use Rattle.v8m_isa.specs.declared.instr.Instr.{Instr}
 use Rattle.v8m_isa.specs.declared.instr.Instr.TheVariants.{Mov, Bxns, Udf, Movw, Movt, Msr}
-use Rattle.v8m_isa.specs.Form.{all_taken, takes, word_of, fields_put, put_all, bits_of, turn}
-use Rattle.v8m_isa.specs.Table.{in_range_of, size_of, code_of, opcode_of, numbers_of, row_of}
+use Rattle.v8m_isa.specs.Table.{in_range_of, size_of, code_of}
 use Rattle.ns_types.specs.Platform.{lies_in}
 use Rattle.ns_types.specs.Memory.{half_at, word_at}
 use Rattle.v8m_core.specs.Step.{fetched, is_gateway}
@@ -30,19 +29,19 @@ length-code_bytes [] = refl
 length-code_bytes (i ∷ is) = length-append (instr_bytes i) (code_bytes is) ∙ ap (λ n. n + length (code_bytes is)) (length_bytes i) ∙ ap (λ n. size_of i + n) (length-code_bytes is)
 
 start_size : length (code_bytes start_code) ≡ 142
-unfolding size_of opcode_of row_of
+unfolding size_of
 start_size = length-code_bytes start_code
 
 entry_size : (n : ℕ) → length (code_bytes (entry_code n)) ≡ 24
-unfolding size_of opcode_of row_of
+unfolding size_of
 entry_size n = length-code_bytes (entry_code n)
 
 stop_size : length (code_bytes (Udf 0 ∷ [])) ≡ 2
-unfolding size_of opcode_of row_of
+unfolding size_of
 stop_size = length-code_bytes (Udf 0 ∷ [])
 
 gateway_size : length (code_bytes gateway_code) ≡ 8
-unfolding size_of opcode_of row_of
+unfolding size_of
 gateway_size = length-code_bytes gateway_code
 
 -- the test of the ranges, which computes
@@ -59,23 +58,23 @@ all_in_range [] h = tt
 all_in_range (i ∷ is) h = let p = and_parts (in_range_of i) (are_in_range is) h in (p.0, all_in_range is p.1)
 
 start_ranges : AllInRange start_code
-unfolding in_range_of opcode_of row_of numbers_of all_taken takes
+unfolding in_range_of
 start_ranges = all_in_range start_code refl
 
 gateway_ranges : AllInRange gateway_code
-unfolding in_range_of opcode_of row_of numbers_of all_taken takes
+unfolding in_range_of
 gateway_ranges = all_in_range gateway_code refl
 
 low_in_range : (n : ℕ) → in_range_of (Movw 0 (n % 65536)) ≡ true
-unfolding in_range_of opcode_of row_of numbers_of all_taken takes
-low_in_range n = let lt : n % 65536 < 65536 = omega arith in let t : ltb (n % 65536) 65536 ≡ true = grind (arith, nat_tests) in ap (λ b. b && true) t
+unfolding in_range_of
+low_in_range n = let lt : n % 65536 < 65536 = omega arith in let t : ltb (n % 65536) 65536 ≡ true = grind (arith, nat_tests) in t
 
 high_in_range : (n : ℕ) → n < 4294967296 → in_range_of (Movt 0 (n / 65536)) ≡ true
-unfolding in_range_of opcode_of row_of numbers_of all_taken takes
-high_in_range n h = let lt : n / 65536 < 65536 = omega arith in let t : ltb (n / 65536) 65536 ≡ true = grind (arith, nat_tests) in ap (λ b. b && true) t
+unfolding in_range_of
+high_in_range n h = let lt : n / 65536 < 65536 = omega arith in let t : ltb (n / 65536) 65536 ≡ true = grind (arith, nat_tests) in t
 
 entry_ranges : (n : ℕ) → n < 4294967296 → AllInRange (entry_code n)
-unfolding in_range_of opcode_of row_of numbers_of all_taken takes
+unfolding in_range_of
 entry_ranges n h = (low_in_range n, (high_in_range n h, rest_ranges))
   where
     rest_ranges : AllInRange (Movw 1 0 ∷ Mov 2 1 ∷ Mov 3 1 ∷ Mov 12 1 ∷ Msr 0 1 ∷ Bxns 14 ∷ [])
@@ -135,7 +134,7 @@ gateway_stands n =
 
 -- the bytes of the gateway and of the branch behind it
 gateway_cells : code_bytes gateway_code ≡ 127 ∷ 233 ∷ 127 ∷ 233 ∷ 1 ∷ 244 ∷ 100 ∷ 184 ∷ []
-unfolding code_of size_of opcode_of row_of numbers_of word_of fields_put put_all bits_of turn
+unfolding code_of size_of
 gateway_cells = refl
 
 -- a halfword behind a front of a list
@@ -176,7 +175,7 @@ pub entry_all : (n : ℕ) → n < 4294967296 → All (λ i. IsTrue (in_range_of 
 entry_all n h = all_of (entry_code n) (entry_ranges n h)
 
 pub stop_all : All (λ i. IsTrue (in_range_of i)) (Udf 0 ∷ [])
-unfolding in_range_of opcode_of row_of numbers_of all_taken takes
+unfolding in_range_of
 stop_all = all_of (Udf 0 ∷ []) (all_in_range (Udf 0 ∷ []) refl)
 
 pub gateway_all : All (λ i. IsTrue (in_range_of i)) gateway_code

@@ -5,7 +5,7 @@ use Rattle.std.proofs.lemmas.Bool.Decides.{nat_tests}
 use Rattle.std.proofs.lemmas.List.{append-nil}
 use Rattle.cm_base.specs.declared.stop.Stop.{Stop}
 use Rattle.cm_base.specs.declared.stop.Stop.TheVariants as stop
-use Rattle.v8m_isa.specs.Table.{size_of, opcode_of, row_of}
+use Rattle.v8m_isa.specs.Table.{size_of}
 use Rattle.v8m_isa.specs.declared.instr.Instr.TheVariants.{Bxns}
 use Rattle.ns_types.specs.declared.goes.Goes.{Goes}
 use Rattle.ns_types.specs.declared.goes.Goes.TheVariants as goes
@@ -142,7 +142,7 @@ bxns_arrives rom n h v s even =
 
 -- from the gateway to the entry's BXNS
 enter_runs : (rom : List ℕ) (n : ℕ) → GivesConstant rom n → (ts : List Turn) (s : State) (k : ℕ) (d : Done) → bxns rom (aligned 2 s.cpu.regs.lr) (answering n (record (entered first_veneer s) { cpu = record (entered first_veneer s).cpu { pc = entry_place } })) ≡ d → m.run_of rom (suc (7 + suc k)) ts (entered first_veneer s) ≡ after d (m.run_of rom k ts d.state)
-unfolding size_of opcode_of row_of effect_of apply
+unfolding size_of effect_of apply
 enter_runs rom n h ts s k d e =
     let u2 = entered first_veneer s in
     let u3 : State = record u2 { cpu = record u2.cpu { pc = entry_place } } in

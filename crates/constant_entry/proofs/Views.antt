@@ -2,8 +2,7 @@
 use Rattle.std.proofs.Common.{◌≡◌, ℕ, suc, ◌+◌, ◌%◌, true, List, [], ◌∷◌, ◌++◌, refl, sym, ap, ◌∙◌, subst, ⊎_elim, arith}
 use Rattle.std.specs.Prelude.{eqb, ◌&&◌, bit_and}
 use Rattle.std.proofs.lemmas.Bool.Decides.{nat_tests}
-use Rattle.v8m_isa.specs.Table.{size_of, code_of, opcode_of, row_of, numbers_of}
-use Rattle.v8m_isa.specs.Form.{word_of, fields_put, put_all, bits_of}
+use Rattle.v8m_isa.specs.Table.{size_of, code_of}
 use Rattle.v8m_isa.specs.declared.instr.Instr.TheVariants.{Bxns, B, Sg}
 use Rattle.ns_types.specs.declared.event.End.TheVariants as end
 use Rattle.ns_types.specs.declared.state.Side.TheVariants.{NonSecure}
@@ -15,7 +14,8 @@ use Rattle.ns_types.specs.Platform.{is_nonsecure, aligned}
 use Rattle.ns_types.specs.Memory.{word_at}
 use Rattle.ns_types.specs.Boundary.{reset_address}
 use Rattle.v8m_core.specs.declared.stepped.Stepped.TheVariants as what
-use Rattle.v8m_core.specs.Step.{Done, fetched, is_gateway, went, seen, handed, entered, turned, step_of, bxns, effect_of, apply, sum32}
+use Rattle.v8m_core.specs.Step.{Done, fetched, is_gateway, went, seen, handed, entered, turned, step_of, bxns, effect_of, apply}
+use Rattle.v8m_core.specs.Values.{sum32}
 use Rattle.v8m_core.specs.Code.{Holds, HasCode, Comes}
 use Rattle.v8m_core.specs.Reset.{reset_of}
 use Rattle.ns_turns.specs.Run.{after, run_of, machine_run}
@@ -39,7 +39,7 @@ branches rom s off to h e = does rom s (B off) h ∙ ap (λ p. went (record s { 
 
 -- where SG stands at the first veneer a gateway is open
 pub opens : (rom : List ℕ) → Holds rom first_veneer Sg → is_gateway rom first_veneer ≡ true
-unfolding is_gateway size_of code_of opcode_of row_of numbers_of word_of fields_put put_all bits_of
+unfolding is_gateway size_of code_of
 opens rom h =
     let second : fetched rom (first_veneer + 2) ≡ 59775 = ⊎_elim {C = fetched rom (first_veneer + 2) ≡ 59775} (λ e. cc) (λ p. p.1) h.second in
     let first : fetched rom first_veneer ≡ 59775 = h.first in
@@ -74,7 +74,7 @@ start_lr start s same = ap (λ r. bit_and (word_at r 4) 4294967294) (sealed_ns_r
 -- from an entry's gateway back to the caller
 answers : (rom : List ℕ) (n : ℕ) (h : GivesConstant rom n) (t : Turn) (ts : List Turn) (s : State) (k : ℕ) → CallsFirst t → s.cpu.side ≡ NonSecure
     → (u : State) × (u.cpu.side ≡ NonSecure) × (run_of rom (suc (suc (7 + suc k))) (t ∷ ts) s ≡ after (record { state = u; what = what.Given (result_view t n) }) (run_of rom k ts u))
-unfolding size_of opcode_of row_of
+unfolding size_of
 answers rom n h t ts s k calls side =
     let target : aligned 2 t.target ≡ first_veneer = ⊎_elim (λ e. ap (aligned 2) e) (λ e. ap (aligned 2) e) calls.target in
     let u2 = entered first_veneer (turned t s.memory.ns_ram s) in

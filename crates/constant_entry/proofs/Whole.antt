@@ -2,7 +2,7 @@
 use Rattle.std.proofs.Common.{◌≡◌, ℕ, suc, ◌+◌, ◌%◌, List, [], ◌++◌, length, refl, sym, ap, ◌∙◌, subst, inl, arith, Some}
 use Rattle.std.specs.Prelude.{eqb, min}
 use Rattle.v8m_isa.specs.declared.instr.Instr.TheVariants.{Bxns}
-use Rattle.v8m_isa.specs.Table.{size_of, opcode_of, row_of}
+use Rattle.v8m_isa.specs.Table.{size_of}
 use Rattle.ns_types.specs.declared.event.CEvent.TheVariants as c
 use Rattle.ns_types.specs.declared.event.Events.{Events}
 use Rattle.ns_types.specs.State.{State}
@@ -48,7 +48,7 @@ unfolding store
 ram_stands s = refl
 
 pub refines : (rom : List ℕ) (n : ℕ) → GivesConstant rom n → Refines rom enters_first (constant_run n)
-unfolding effect_of apply size_of opcode_of row_of
+unfolding effect_of apply size_of
 refines rom n h start whole ts b =
     let s = reset_of rom start in
     let place : s.cpu.pc ≡ start_place = ap (aligned 2) h.reset in

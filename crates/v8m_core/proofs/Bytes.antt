@@ -4,7 +4,7 @@ use Rattle.std.specs.Prelude.{eqb, slice_index}
 use Rattle.std.proofs.lemmas.Grind.{common_steps}
 use Rattle.std.proofs.lemmas.Bool.Decides.{nat_tests}
 use Rattle.v8m_isa.specs.declared.instr.Instr.{Instr}
-use Rattle.v8m_isa.specs.Table.{size_of, code_of}
+use Rattle.v8m_isa.specs.Table.{in_range_of, size_of, code_of}
 use Rattle.ns_types.specs.Platform.{is_in_rom}
 use Rattle.ns_types.specs.Memory.{half_at, word_at}
 use Rattle.v8m_core.specs.Step.{fetched}
@@ -37,20 +37,20 @@ length_bytes i =
     (λ e. ap (λ n. length (cond (eqb n 2) (two (code_of i).first) (two (code_of i).first ++ two (code_of i).second))) e ∙ sym e)
     (size_of_two_or_four i)
 
-first_stands : (i : Instr) (rom pre post : List ℕ) → rom ≡ pre ++ (instr_bytes i ++ post) → half_at rom (length pre) ≡ (code_of i).first
-first_stands i rom pre post e =
+first_stands : (i : Instr) (rom pre post : List ℕ) → in_range_of i ≡ true → rom ≡ pre ++ (instr_bytes i ++ post) → half_at rom (length pre) ≡ (code_of i).first
+first_stands i rom pre post range e =
     ⊎_elim
-    (λ s. ap (λ r. half_at r (length pre)) (e ∙ ap (λ n. pre ++ (cond (eqb n 2) (two (code_of i).first) (two (code_of i).first ++ two (code_of i).second) ++ post)) s) ∙ half_at_seam pre post (code_of i).first (length pre) (first-code_of_lt i) refl)
-    (λ s. ap (λ r. half_at r (length pre)) (e ∙ ap (λ n. pre ++ (cond (eqb n 2) (two (code_of i).first) (two (code_of i).first ++ two (code_of i).second) ++ post)) s) ∙ half_at_seam pre (two (code_of i).second ++ post) (code_of i).first (length pre) (first-code_of_lt i) refl)
+    (λ s. ap (λ r. half_at r (length pre)) (e ∙ ap (λ n. pre ++ (cond (eqb n 2) (two (code_of i).first) (two (code_of i).first ++ two (code_of i).second) ++ post)) s) ∙ half_at_seam pre post (code_of i).first (length pre) (first-code_of_lt i range) refl)
+    (λ s. ap (λ r. half_at r (length pre)) (e ∙ ap (λ n. pre ++ (cond (eqb n 2) (two (code_of i).first) (two (code_of i).first ++ two (code_of i).second) ++ post)) s) ∙ half_at_seam pre (two (code_of i).second ++ post) (code_of i).first (length pre) (first-code_of_lt i range) refl)
     (size_of_two_or_four i)
 
-second_stands : (i : Instr) (rom pre post : List ℕ) → rom ≡ pre ++ (instr_bytes i ++ post) → (size_of i ≡ 2) ⊎ (half_at rom (length pre + 2) ≡ (code_of i).second)
-second_stands i rom pre post e =
+second_stands : (i : Instr) (rom pre post : List ℕ) → in_range_of i ≡ true → rom ≡ pre ++ (instr_bytes i ++ post) → (size_of i ≡ 2) ⊎ (half_at rom (length pre + 2) ≡ (code_of i).second)
+second_stands i rom pre post range e =
     ⊎_elim (λ s. inl s)
     (λ s. inr (
     let turn : pre ++ (two (code_of i).first ++ two (code_of i).second ++ post) ≡ (pre ++ two (code_of i).first) ++ (two (code_of i).second ++ post) = sym (append_assoc pre (two (code_of i).first) (two (code_of i).second ++ post)) in
     let n : length pre + 2 ≡ length (pre ++ two (code_of i).first) = omega (arith, length-append pre (two (code_of i).first)) in
-    ap (λ r. half_at r (length pre + 2)) (e ∙ ap (λ n. pre ++ (cond (eqb n 2) (two (code_of i).first) (two (code_of i).first ++ two (code_of i).second) ++ post)) s ∙ turn) ∙ half_at_seam (pre ++ two (code_of i).first) post (code_of i).second (length pre + 2) (second-code_of_lt i) n))
+    ap (λ r. half_at r (length pre + 2)) (e ∙ ap (λ n. pre ++ (cond (eqb n 2) (two (code_of i).first) (two (code_of i).first ++ two (code_of i).second) ++ post)) s ∙ turn) ∙ half_at_seam (pre ++ two (code_of i).first) post (code_of i).second (length pre + 2) (second-code_of_lt i range) n))
     (size_of_two_or_four i)
 
 pub has_code : (is : List Instr) (rom pre post : List ℕ) → rom ≡ pre ++ (code_bytes is ++ post) → length rom ≤ 4194304 → AllInRange is → HasCode rom (268435456 + length pre) is
@@ -67,10 +67,10 @@ has_code (i ∷ is) rom pre post e fit all =
       record {
         range = all.0;
         place = (let a : 268435456 + length pre < 272629760 = omega arith in grind (arith, nat_tests));
-        first = ap (half_at rom) back ∙ first_stands i rom pre (code_bytes is ++ post) e';
+        first = ap (half_at rom) back ∙ first_stands i rom pre (code_bytes is ++ post) all.0 e';
         second = ⊎_elim
             (λ s. inl s)
-            (λ s. ⊎_elim {C = (size_of i ≡ 2) ⊎ ((is_in_rom (268435456 + length pre + 2) ≡ true) × (fetched rom (268435456 + length pre + 2) ≡ (code_of i).second))} (λ t. inl t) (λ h. inr ((let a : 268435456 + length pre + 2 < 272629760 = omega arith in grind (arith, nat_tests)), ap (half_at rom) back2 ∙ h)) (second_stands i rom pre (code_bytes is ++ post) e'))
+            (λ s. ⊎_elim {C = (size_of i ≡ 2) ⊎ ((is_in_rom (268435456 + length pre + 2) ≡ true) × (fetched rom (268435456 + length pre + 2) ≡ (code_of i).second))} (λ t. inl t) (λ h. inr ((let a : 268435456 + length pre + 2 < 272629760 = omega arith in grind (arith, nat_tests)), ap (half_at rom) back2 ∙ h)) (second_stands i rom pre (code_bytes is ++ post) all.0 e'))
             (size_of_two_or_four i);
       },
       subst (λ p. HasCode rom p is) m (has_code is rom (pre ++ instr_bytes i) post e'' fit all.1),

@@ -16,7 +16,7 @@ use Rattle.v8m_core.specs.declared.stepped.Stepped.{Stepped}
 use Rattle.v8m_core.specs.declared.stepped.Stepped.TheVariants as what
 use Rattle.v8m_core.specs.declared.effect.Effect.{Effect}
 use Rattle.v8m_core.specs.declared.effect.Effect.TheVariants as effect
-use Rattle.v8m_core.specs.Step.{Done, went, stopped, unless, fetched, goes_in, seen, arrived, return_stop, return_to, bxns, effect_of, pass, write_register, load_stop, store_stop, special, apply, act, act_or, step_of}
+use Rattle.v8m_core.specs.Step.{Done, went, stopped, unless, fetched, goes_in, seen, arrived, return_stop, return_to, bx, bxns, limit_stop, link, call_stop, called, only_stopped_by, blxns, effect_of, pass, write_register, load_stop, store_stop, push_stop, pop_stop, pushed, popped, special, apply, act, act_or, step_of}
 use Rattle.v8m_core.specs.Code.{Holds, HasCode, past, Comes, Does}
 
 -- decoding what was encoded
@@ -113,6 +113,24 @@ stays_bxns rom v s h =
     (stays_cond _ _ _ (stays_arrived rom (goes_in rom v) v (what.Given (seen s.cpu v)) s (λ e. cc))
     (stays_cond _ _ _ (stays_went _ h) (stays_stopped stop.BadState s)))
 
+stays_bx : (rom : List ℕ) (v : ℕ) (s : State) → s.cpu.side ≡ Secure → Stays (bx rom v s)
+unfolding bx
+stays_bx rom v s h = stays_cond _ _ _ (stays_return rom s) (stays_cond _ _ _ (stays_went _ h) (stays_stopped stop.BadState s))
+
+stays_only : (w : Stepped) (s : State) (d : Done) → Stays d → Stays (only_stopped_by w s d)
+stays_only what.Went s d h = h
+stays_only (what.Wrote at size value) s d h = h
+stays_only (what.Given view) s d h = h
+stays_only (what.Stopped x) s d h = stays_stopped x s
+
+stays_blxns : (rom : List ℕ) (v size : ℕ) (s : State) → s.cpu.side ≡ Secure → Stays (blxns rom v size s)
+unfolding blxns
+stays_blxns rom v size s h =
+    let t = called (link size s.cpu) s in
+    stays_cond _ _ _
+    (stays_unless (call_stop s.cpu) s _ (stays_only _ s _ (stays_arrived rom (goes_in rom v) v (what.Given (seen t.cpu v)) t (λ e. cc))))
+    (stays_cond _ _ _ (stays_went _ h) (stays_stopped stop.BadState s))
+
 record IsSecure (c : Cpu) : Type 0 where
   by : c.side ≡ Secure
 
@@ -129,15 +147,22 @@ special_secure k v c h =
     (secure_cond (eqb k 11) _ _ (record { by = h }) (secure_cond (eqb k 136) _ _ (record { by = h }) (record { by = h }))))))
 
 stays_apply : (rom : List ℕ) (e : Effect) (size : ℕ) (s : State) → s.cpu.side ≡ Secure → Stays (apply rom e size s)
-unfolding apply write_register
+unfolding apply write_register pushed popped
 stays_apply rom effect.Pass size s h = stays_went _ h
 stays_apply rom (effect.Stop x) size s h = stays_stopped x s
-stays_apply rom (effect.Put d v) size s h = stays_cond _ _ _ (stays_cond _ _ _ (stays_stopped stop.StackLimit s) (stays_went _ h)) (stays_went _ h)
+stays_apply rom (effect.Put d v) size s h = stays_cond _ _ _ (stays_unless (limit_stop v s.cpu) s _ (stays_went _ h)) (stays_went _ h)
 stays_apply rom (effect.Load t a n) size s h = stays_unless (load_stop a n) s _ (stays_went _ h)
+stays_apply rom (effect.LoadSigned t a n) size s h = stays_unless (load_stop a n) s _ (stays_went _ h)
 stays_apply rom (effect.Store a n v) size s h = stays_unless (store_stop a n) s _ (record { side = λ e. h })
+stays_apply rom (effect.Push list) size s h = stays_unless (push_stop list s.cpu) s _ (stays_went _ h)
+stays_apply rom (effect.Pop list) size s h = stays_unless (pop_stop list s.cpu) s _ (stays_went _ h)
+stays_apply rom (effect.Flags flags) size s h = stays_went _ h
 stays_apply rom (effect.Jump a) size s h = stays_went _ h
+stays_apply rom (effect.Call a) size s h = stays_went _ h
 stays_apply rom (effect.Special k v) size s h = stays_went _ ((special_secure k v (pass size s).cpu h).by)
+stays_apply rom (effect.Bx v) size s h = stays_bx rom v s h
 stays_apply rom (effect.Bxns v) size s h = stays_bxns rom v s h
+stays_apply rom (effect.Blxns v) size s h = stays_blxns rom v size s h
 
 stays_act : (rom : List ℕ) (o : Option Decoded) (s : State) → s.cpu.side ≡ Secure → Stays (act_or rom o s)
 stays_act rom None s h = stays_stopped stop.Undefined s

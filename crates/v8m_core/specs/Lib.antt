@@ -1,3 +1,6 @@
+pub mod Values
+pub mod Lists
+pub mod Effects
 pub mod Step
 pub mod Code
 pub mod Parts

@@ -1,9 +1,8 @@
 -- One step of the machine: what is fetched, what an instruction does, and the gates between Secure and Non-secure state.
-use Rattle.std.specs.Prelude.{ℕ, ◌+◌, ◌-◌, ◌*◌, ◌/◌, ◌%◌, Bool, cond, ◌&&◌, not, eqb, ltb, List, [], ◌∷◌, slice_index, Option, Some, None, bit_and}
+use Rattle.std.specs.Prelude.{ℕ, ◌+◌, ◌-◌, ◌/◌, ◌%◌, Bool, cond, ◌&&◌, not, eqb, ltb, List, [], ◌∷◌, slice_index, Option, Some, None}
 use Rattle.cm_base.specs.declared.stop.Stop.{Stop}
 use Rattle.cm_base.specs.declared.stop.Stop.TheVariants as stop
 use Rattle.v8m_isa.specs.declared.instr.Instr.{Instr}
-use Rattle.v8m_isa.specs.declared.instr.Instr.TheVariants.{Mov, Bxns, Udf, Sg, Movw, Movt, Bic, Ldr, Str, B, Msr}
 use Rattle.v8m_isa.specs.Table.{Decoded, decode_of, is_narrow}
 use Rattle.ns_types.specs.declared.goes.Goes.{Goes}
 use Rattle.ns_types.specs.declared.goes.Goes.TheVariants as goes
@@ -11,10 +10,13 @@ use Rattle.ns_types.specs.declared.state.Cpu.{Cpu}
 use Rattle.ns_types.specs.declared.state.Side.TheVariants.{Secure, NonSecure, Stopped}
 use Rattle.ns_types.specs.declared.turn.View.{View}
 use Rattle.ns_types.specs.declared.turn.Turn.{Turn}
-use Rattle.ns_types.specs.State.{get_of, set_of, State}
+use Rattle.ns_types.specs.State.{set_of, State}
 use Rattle.ns_types.specs.Platform.{row, in_row, lies_in, is_readable, is_writable, is_in_rom, aligned}
 use Rattle.ns_types.specs.Memory.{half_at, load, store}
 use Rattle.ns_types.specs.Boundary.{function_return, goes_of, acted}
+use Rattle.v8m_core.specs.Values.{sum32, difference32, signed_byte, signed_half}
+use Rattle.v8m_core.specs.Effects.{effect_or, moved, computed, bitwise, accessed, branched, named}
+use Rattle.v8m_core.specs.Lists.{registers, next, bytes_of, all_writable, all_readable, all_stored, all_loaded}
 use Rattle.v8m_core.specs.declared.stepped.Stepped.{Stepped}
 use Rattle.v8m_core.specs.declared.stepped.Stepped.TheVariants as what
 use Rattle.v8m_core.specs.declared.effect.Effect.{Effect}
@@ -36,8 +38,10 @@ abbrev pub unless : Option Stop → State → Done → Done
 unless None s d = d
 unless (Some x) s d = stopped x s
 
-abbrev pub sum32 : ℕ → ℕ → ℕ
-sum32 a b = (a + b) % 4294967296
+-- the first of two stops
+abbrev pub or_stop : Option Stop → Option Stop → Option Stop
+or_stop None b = b
+or_stop (Some x) b = Some x
 
 -- The gates (DDI0553: SG, BXNS, function return)
 
@@ -69,8 +73,11 @@ seen c pc =
     }
 
 -- entering by the gateway at e: LR loses bit 0, and the instruction behind SG is next
+abbrev pub entered_cpu : ℕ → Cpu → Cpu
+entered_cpu e c = record c { side = Secure; regs = record c.regs { lr = aligned 2 c.regs.lr }; pc = e + 4 }
+
 abbrev pub entered : ℕ → State → State
-entered e s = record s { cpu = record s.cpu { side = Secure; regs = record s.cpu.regs { lr = aligned 2 s.cpu.regs.lr }; pc = e + 4 } }
+entered e s = record s { cpu = entered_cpu e s.cpu }
 
 -- handing over to Non-secure code at an address
 abbrev pub handed : ℕ → State → State
@@ -108,26 +115,58 @@ bxns rom v s =
     (cond (eqb (v % 2) 0) (arrived rom (goes_in rom v) v (what.Given (seen s.cpu v)) s)
     (cond (is_in_rom (v - 1)) (went (record s { cpu = record s.cpu { pc = v - 1 } })) (stopped stop.BadState s)))
 
+-- BX (DDI0553, BX): a function return, or a branch in Secure state, whose target has bit 0 set
+unfoldable pub bx : List ℕ → ℕ → State → Done
+bx rom v s =
+    cond (eqb (aligned 2 v) function_return) (return_to rom s)
+    (cond (not (eqb (v % 2) 0) && is_in_rom (v - 1)) (went (record s { cpu = record s.cpu { pc = v - 1 } })) (stopped stop.BadState s))
+
+-- A new number for SP stops where it is below MSPLIM; its low two bits are lost.
+abbrev pub limit_stop : ℕ → Cpu → Option Stop
+limit_stop v c = cond (ltb (aligned 4 v) c.msplim) (Some stop.StackLimit) None
+
+-- the return address of an instruction of this size, with bit 0 set
+abbrev pub link : ℕ → Cpu → ℕ
+link size c = aligned 2 (c.pc + size) + 1
+
+-- Why a call of Non-secure code stops, if it does, in the order of its tests: SP, its limit, the two words.
+unfoldable pub call_stop : Cpu → Option Stop
+call_stop c =
+    let sp = difference32 c.regs.sp 8 in
+    cond (not (eqb (c.regs.sp % 8) 0)) (Some stop.BadState)
+    (or_stop (limit_stop sp c) (cond (is_writable sp 4 && is_writable (next sp) 4) None (Some stop.Unmapped)))
+
+-- A call of Non-secure code: below SP stand the return address and above it a word that is 0, and LR is the function
+-- return address with bit 0 set.
+abbrev pub called : ℕ → State → State
+called back s =
+    let sp = difference32 s.cpu.regs.sp 8 in
+    record { cpu = record s.cpu { regs = record s.cpu.regs { sp = sp; lr = function_return + 1 } }; memory = store 4 (next sp) 0 (store 4 sp back s.memory) }
+
+-- a step that stops changes nothing of the state before it but the side
+abbrev pub only_stopped_by : Stepped → State → Done → Done
+only_stopped_by (what.Stopped x) s d = stopped x s
+only_stopped_by _ s d = d
+
+abbrev pub only_stopped : State → Done → Done
+only_stopped s d = only_stopped_by d.what s d
+
+-- the branch to Non-secure state of such a call
+abbrev pub called_at : List ℕ → ℕ → State → Done
+called_at rom v t = arrived rom (goes_in rom v) v (what.Given (seen t.cpu v)) t
+
+-- BLXNS (DDI0553, BLXNS): with bit 0 set a call in Secure state, else one of Non-secure code
+unfoldable pub blxns : List ℕ → ℕ → ℕ → State → Done
+blxns rom v size s =
+    cond (eqb (v % 2) 0)
+    (unless (call_stop s.cpu) s (only_stopped s (called_at rom v (called (link size s.cpu) s))))
+    (cond (is_in_rom (v - 1)) (went (record s { cpu = record s.cpu { regs = record s.cpu.regs { lr = link size s.cpu }; pc = v - 1 } })) (stopped stop.BadState s))
+
 -- What each instruction does
 
--- the stop of UDF by its number
-abbrev pub udf_stop : ℕ → Stop
-udf_stop i =
-    cond (eqb i 1) stop.Divide (cond (eqb i 2) stop.Outside (cond (eqb i 3) stop.Misaligned (cond (eqb i 4) stop.DataStack (cond (eqb i 5) stop.CallTarget stop.Undefined))))
-
--- row by row of the instruction table, from the registers and the flags
+-- the effect of an instruction is that of its group
 unfoldable pub effect_of : Instr → Cpu → Effect
-effect_of (Mov d m) c = effect.Put d (get_of c.regs m)
-effect_of (Bxns m) c = effect.Bxns (get_of c.regs m)
-effect_of (Udf i) c = effect.Stop (udf_stop i)
-effect_of Sg c = effect.Pass
-effect_of (Movw d i) c = effect.Put d i
-effect_of (Movt d i) c = effect.Put d (65536 * i + get_of c.regs d % 65536)
-effect_of (Bic d n m) c = effect.Put d (bit_and (get_of c.regs n) (4294967295 - get_of c.regs m))
-effect_of (Ldr t n i) c = effect.Load t (sum32 (get_of c.regs n) i) 4
-effect_of (Str t n i) c = effect.Store (sum32 (get_of c.regs n) i) 4 (get_of c.regs t)
-effect_of (B off) c = effect.Jump (sum32 (c.pc + 4) off)
-effect_of (Msr s n) c = effect.Special s (get_of c.regs n)
+effect_of i c = effect_or (moved i c) (effect_or (computed i c) (effect_or (bitwise i c) (effect_or (accessed i c) (effect_or (branched i c) (effect_or (named i c) effect.Pass)))))
 
 -- the next instruction
 abbrev pub pass : ℕ → State → State
@@ -138,7 +177,7 @@ put size d v s = record s { cpu = record s.cpu { regs = set_of s.cpu.regs d v; p
 
 -- a write of a register; SP (register 13) loses its low two bits, and may not go below MSPLIM
 unfoldable pub write_register : ℕ → ℕ → ℕ → State → Done
-write_register size d v s = cond (eqb d 13) (cond (ltb v s.cpu.msplim) (stopped stop.StackLimit s) (went (put size 13 (aligned 4 v) s))) (went (put size d v s))
+write_register size d v s = cond (eqb d 13) (unless (limit_stop v s.cpu) s (went (put size 13 (aligned 4 v) s))) (went (put size d v s))
 
 -- why a load and a store of Secure code stop, if they do
 unfoldable pub load_stop : ℕ → ℕ → Option Stop
@@ -153,6 +192,39 @@ stored step a size v s = record {
   state = record (pass step s) { memory = store size a v s.memory };
   what = cond (in_row 1 a) (what.Wrote a size v) what.Went;
 }
+
+-- a number of 1 or 2 bytes with its sign
+abbrev pub signed : ℕ → ℕ → ℕ
+signed size v = cond (eqb size 1) (signed_byte v) (signed_half v)
+
+-- the new SP of a push and of a pop
+abbrev pub pushed_sp : ℕ → Cpu → ℕ
+pushed_sp list c = difference32 c.regs.sp (bytes_of list registers)
+
+abbrev pub popped_sp : ℕ → Cpu → ℕ
+popped_sp list c = sum32 c.regs.sp (bytes_of list registers)
+
+-- why a push and a pop stop, if they do: the limit of SP, its alignment, and then the words
+unfoldable pub push_stop : ℕ → Cpu → Option Stop
+push_stop list c =
+    or_stop (limit_stop (pushed_sp list c) c)
+    (cond (not (eqb (c.regs.sp % 4) 0)) (Some stop.Unaligned) (cond (all_writable list registers (pushed_sp list c)) None (Some stop.Unmapped)))
+
+unfoldable pub pop_stop : ℕ → Cpu → Option Stop
+pop_stop list c =
+    or_stop (limit_stop (popped_sp list c) c)
+    (cond (not (eqb (c.regs.sp % 4) 0)) (Some stop.Unaligned) (cond (all_readable list registers c.regs.sp) None (Some stop.Unmapped)))
+
+-- a push and a pop; no event shows what a push writes
+unfoldable pub pushed : ℕ → ℕ → State → State
+pushed list size s =
+    let sp = pushed_sp list s.cpu in
+    record { cpu = record s.cpu { regs = record s.cpu.regs { sp = aligned 4 sp }; pc = s.cpu.pc + size }; memory = all_stored list registers s.cpu.regs sp s.memory }
+
+unfoldable pub popped : List ℕ → ℕ → ℕ → State → State
+popped rom list size s =
+    let regs = all_loaded list registers rom s.memory s.cpu.regs.sp s.cpu.regs in
+    record s { cpu = record s.cpu { regs = record regs { sp = aligned 4 (popped_sp list s.cpu) }; pc = s.cpu.pc + size } }
 
 -- MSR by the number of the special register: a stack pointer loses its low two bits, and a limit its low three
 abbrev pub special : ℕ → ℕ → Cpu → Cpu
@@ -170,10 +242,17 @@ apply rom effect.Pass size s = went (pass size s)
 apply rom (effect.Stop x) size s = stopped x s
 apply rom (effect.Put d v) size s = write_register size d v s
 apply rom (effect.Load t a n) size s = unless (load_stop a n) s (went (put size t (load n a rom s.memory) s))
+apply rom (effect.LoadSigned t a n) size s = unless (load_stop a n) s (went (put size t (signed n (load n a rom s.memory)) s))
 apply rom (effect.Store a n v) size s = unless (store_stop a n) s (stored size a n v s)
 apply rom (effect.Jump a) size s = went (record s { cpu = record s.cpu { pc = a } })
+apply rom (effect.Push list) size s = unless (push_stop list s.cpu) s (went (pushed list size s))
+apply rom (effect.Pop list) size s = unless (pop_stop list s.cpu) s (went (popped rom list size s))
+apply rom (effect.Flags flags) size s = went (record s { cpu = record (pass size s).cpu { nzcvq = flags } })
+apply rom (effect.Call a) size s = went (record s { cpu = record s.cpu { regs = record s.cpu.regs { lr = link size s.cpu }; pc = a } })
 apply rom (effect.Special k v) size s = went (record s { cpu = special k v (pass size s).cpu })
+apply rom (effect.Bx v) size s = bx rom v s
 apply rom (effect.Bxns v) size s = bxns rom v s
+apply rom (effect.Blxns v) size s = blxns rom v size s
 
 -- an instruction of this size
 abbrev pub act : List ℕ → Instr → ℕ → State → Done

@@ -2,10 +2,12 @@
 
 ghost use Rattle.std.specs.Prelude.{◌≡◌, ◌+◌, ◌^◌, ◌<◌, IsTrue};
 ghost use Rattle.v8m_mem.specs.Rows.{is_size};
-ghost use Rattle.v8m_core.specs.Step.{apply, load_stop, special, store_stop, write_register};
-ghost use Rattle.v8m_core.specs.Parts.{Exact, can_apply, done, state};
+ghost use Rattle.v8m_core.specs.Step.{apply, load_stop, pop_stop, popped, push_stop, pushed, signed, special, store_stop, write_register};
+ghost use Rattle.v8m_core.specs.Parts.{Exact, can_apply, done, is_short, state};
 
-use crate::gates::{align, bxns, stop};
+use crate::gates::{align, blxns, bx, bxns, limit_stop, link, stop};
+use crate::lists::{REGISTERS, all_readable, all_writable, bytes_of, load_all, store_all};
+use crate::values::{signed_byte, signed_half};
 use crate::{Effect, Stepped};
 use cm_base::Stop;
 use ns_types::Cpu;
@@ -19,8 +21,8 @@ fn write_register(cpu: &mut Cpu, size: u32, d: u32, v: u32) -> Stepped
     ensures { Exact (write_register size d v) cpu.old cpu.new result }
 {
     if d == 13 {
-        if v < cpu.msplim {
-            return stop(cpu, Stop::StackLimit);
+        if let Some(why) = limit_stop(v, cpu) {
+            return stop(cpu, why);
         }
         cpu.regs.sp = align(4, v);
     } else {
@@ -116,6 +118,106 @@ fn store(memory: &mut Memory, cpu: &mut Cpu, at: u32, bytes: u8, v: u32, size: u
     }
 }
 
+/// A number of 1 or 2 bytes with its sign.
+fn signed(size: u8, v: u32) -> u32
+    ensures { result ≡ signed size v }
+{
+    if size == 1 {
+        signed_byte(v)
+    } else {
+        signed_half(v)
+    }
+}
+
+/// Loads a register with a sign.
+#[tactic(auto, unfolding(crate::specs::Step::apply, crate::specs::Step::load_stop))]
+fn load_signed(memory: &Memory, cpu: &mut Cpu, t: u32, at: u32, bytes: u8, size: u32) -> Stepped
+    requires reg { t < 15 }
+    requires bytes { IsTrue (is_short bytes) }
+    requires room { cpu.old.pc + size < 2 ^ 32 }
+    ensures { apply memory.now.rom (Effect.LoadSigned t at bytes) size (state cpu.old memory.now.memory) ≡ done cpu.new memory.now.memory result }
+{
+    if let Some(why) = load_stop(at, bytes) {
+        return stop(cpu, why);
+    }
+    let v = signed(bytes, memory.load(at, bytes));
+    cpu.regs.set(t, v);
+    cpu.pc += size;
+    Stepped::Went
+}
+
+/// Why a push stops, if it does.
+#[tactic(auto, unfolding(crate::specs::Step::push_stop))]
+fn push_stop(list: u32, cpu: &Cpu) -> Option<Stop>
+    ensures { result ≡ push_stop list cpu.now }
+{
+    let sp = cpu.regs.sp.wrapping_sub(bytes_of(list, &REGISTERS));
+    if let Some(why) = limit_stop(sp, cpu) {
+        return Some(why);
+    }
+    if cpu.regs.sp % 4 != 0 {
+        return Some(Stop::Unaligned);
+    }
+    if all_writable(list, &REGISTERS, sp) {
+        None
+    } else {
+        Some(Stop::Unmapped)
+    }
+}
+
+/// Pushes the registers of a list.
+#[tactic(auto, unfolding(crate::specs::Step::apply, crate::specs::Step::push_stop, crate::specs::Step::pushed))]
+fn push(memory: &mut Memory, cpu: &mut Cpu, list: u32, size: u32) -> Stepped
+    requires room { cpu.old.pc + size < 2 ^ 32 }
+    ensures rom { memory.new.rom ≡ memory.old.rom }
+    ensures step { apply memory.old.rom (Effect.Push list) size (state cpu.old memory.old.memory) ≡ done cpu.new memory.new.memory result }
+{
+    if let Some(why) = push_stop(list, cpu) {
+        return stop(cpu, why);
+    }
+    let sp = cpu.regs.sp.wrapping_sub(bytes_of(list, &REGISTERS));
+    store_all(memory, &cpu.regs, list, &REGISTERS, sp);
+    cpu.regs.sp = align(4, sp);
+    cpu.pc += size;
+    Stepped::Went
+}
+
+/// Why a pop stops, if it does.
+#[tactic(auto, unfolding(crate::specs::Step::pop_stop))]
+fn pop_stop(list: u32, cpu: &Cpu) -> Option<Stop>
+    ensures { result ≡ pop_stop list cpu.now }
+{
+    let sp = cpu.regs.sp.wrapping_add(bytes_of(list, &REGISTERS));
+    if let Some(why) = limit_stop(sp, cpu) {
+        return Some(why);
+    }
+    if cpu.regs.sp % 4 != 0 {
+        return Some(Stop::Unaligned);
+    }
+    if all_readable(list, &REGISTERS, cpu.regs.sp) {
+        None
+    } else {
+        Some(Stop::Unmapped)
+    }
+}
+
+/// Pops the registers of a list.
+#[tactic(auto, unfolding(crate::specs::Step::apply, crate::specs::Step::pop_stop, crate::specs::Step::popped))]
+fn pop(memory: &Memory, cpu: &mut Cpu, list: u32, size: u32) -> Stepped
+    requires room { cpu.old.pc + size < 2 ^ 32 }
+    ensures { apply memory.now.rom (Effect.Pop list) size (state cpu.old memory.now.memory) ≡ done cpu.new memory.now.memory result }
+{
+    if let Some(why) = pop_stop(list, cpu) {
+        return stop(cpu, why);
+    }
+    let at = cpu.regs.sp;
+    let sp = at.wrapping_add(bytes_of(list, &REGISTERS));
+    load_all(memory, &mut cpu.regs, list, &REGISTERS, at);
+    cpu.regs.sp = align(4, sp);
+    cpu.pc += size;
+    Stepped::Went
+}
+
 /// Applies an effect of an instruction of a size.
 #[tactic(auto, unfolding(crate::specs::Step::apply))]
 pub fn apply(memory: &mut Memory, cpu: &mut Cpu, effect: Effect, size: u32) -> Stepped
@@ -130,12 +232,27 @@ pub fn apply(memory: &mut Memory, cpu: &mut Cpu, effect: Effect, size: u32) -> S
         Effect::Put { d, v } => return write_register(cpu, size, d, v),
         Effect::Load { t, at, size: bytes } => return load(memory, cpu, t, at, bytes, size),
         Effect::Store { at, size: bytes, v } => return store(memory, cpu, at, bytes, v, size),
+        Effect::LoadSigned { t, at, size: bytes } => {
+            return load_signed(memory, cpu, t, at, bytes, size);
+        }
+        Effect::Push { list } => return push(memory, cpu, list, size),
+        Effect::Pop { list } => return pop(memory, cpu, list, size),
+        Effect::Flags { nzcvq } => {
+            cpu.pc += size;
+            cpu.nzcvq = nzcvq;
+        }
         Effect::Jump { at } => cpu.pc = at,
+        Effect::Call { at } => {
+            cpu.regs.lr = link(size, cpu);
+            cpu.pc = at;
+        }
         Effect::Special { k, v } => {
             cpu.pc += size;
             special(cpu, k, v);
         }
+        Effect::Bx { v } => return bx(memory, cpu, v),
         Effect::Bxns { v } => return bxns(memory, cpu, v),
+        Effect::Blxns { v } => return blxns(memory, cpu, v, size),
     }
     Stepped::Went
 }

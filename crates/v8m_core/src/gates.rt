@@ -1,14 +1,14 @@
 //! The gates between Secure and Non-secure state (DDI0553: SG, BXNS, function return).
 
-ghost use Rattle.std.specs.Prelude.{◌≡◌, ◌+◌, ◌^◌, ◌<◌, IsTrue};
+ghost use Rattle.std.specs.Prelude.{◌≡◌, ◌+◌, ◌^◌, ◌<◌, IsTrue, None};
 ghost use Rattle.ns_types.specs.Platform.{aligned};
-ghost use Rattle.v8m_core.specs.Step.{arrived, bxns, goes_in, is_gateway, return_stop, return_to, seen};
+ghost use Rattle.v8m_core.specs.Step.{arrived, blxns, bx, bxns, call_stop, called, called_at, entered_cpu, limit_stop, link, goes_in, is_gateway, only_stopped, return_stop, return_to, seen};
 ghost use Rattle.v8m_core.specs.Parts.{done, entry_of, is_quiet, state};
 
 use crate::Stepped;
 use cm_base::Stop;
 use ns_types::{Cpu, Goes, Side, View};
-use v8m_mem::{Memory, can_read, is_in_rom, is_nonsecure, is_secure};
+use v8m_mem::{Memory, can_read, can_write, is_in_rom, is_nonsecure, is_secure};
 
 /// The address that a branch takes as a function return (DDI0553, FNC_RETURN).
 const FUNCTION_RETURN: u32 = 0xFEFF_FFFE;
@@ -115,6 +115,16 @@ fn return_to(memory: &Memory, cpu: &mut Cpu) -> Stepped
     Stepped::Went
 }
 
+/// Enters by the gateway at an address.
+fn enter(cpu: &mut Cpu, e: u32)
+    requires { e + 4 < 2 ^ 32 }
+    ensures { cpu.new ≡ entered_cpu e cpu.old }
+{
+    cpu.side = Side::Secure;
+    cpu.regs.lr = align(2, cpu.regs.lr);
+    cpu.pc = e + 4;
+}
+
 /// A branch in Non-secure state, or from Secure to Non-secure state: `at` is the program counter of a hand-over,
 /// and `show` what such a step is.
 pub fn arrive(memory: &Memory, cpu: &mut Cpu, target: u32, at: u32, show: Stepped) -> Stepped
@@ -124,9 +134,7 @@ pub fn arrive(memory: &Memory, cpu: &mut Cpu, target: u32, at: u32, show: Steppe
 {
     match goes_in(memory, target) {
         Goes::Enter(e) => {
-            cpu.side = Side::Secure;
-            cpu.regs.lr = align(2, cpu.regs.lr);
-            cpu.pc = e + 4;
+            enter(cpu, e);
             Stepped::Went
         }
         Goes::Return => return_to(memory, cpu),
@@ -155,6 +163,140 @@ pub fn bxns(memory: &Memory, cpu: &mut Cpu, v: u32) -> Stepped
     if !is_in_rom(v - 1) {
         return stop(cpu, Stop::BadState);
     }
+    cpu.pc = v - 1;
+    Stepped::Went
+}
+
+/// BX: a function return, or a branch in Secure state to an address with bit 0 set.
+#[tactic(auto, unfolding(crate::specs::Step::bx))]
+pub fn bx(memory: &Memory, cpu: &mut Cpu, v: u32) -> Stepped
+    ensures { bx memory.now.rom v (state cpu.old memory.now.memory) ≡ done cpu.new memory.now.memory result }
+{
+    if align(2, v) == FUNCTION_RETURN {
+        return return_to(memory, cpu);
+    }
+    if v % 2 == 0 || !is_in_rom(v - 1) {
+        return stop(cpu, Stop::BadState);
+    }
+    cpu.pc = v - 1;
+    Stepped::Went
+}
+
+/// Why a new number for SP stops, if it does.
+pub fn limit_stop(v: u32, cpu: &Cpu) -> Option<Stop>
+    ensures { result ≡ limit_stop v cpu.now }
+{
+    if align(4, v) < cpu.msplim {
+        Some(Stop::StackLimit)
+    } else {
+        None
+    }
+}
+
+/// The return address of an instruction of a size, with bit 0 set.
+pub fn link(size: u32, cpu: &Cpu) -> u32
+    requires { cpu.now.pc + size < 2 ^ 32 }
+    ensures { result ≡ link size cpu.now }
+{
+    align(2, cpu.pc + size) + 1
+}
+
+/// Why a call of Non-secure code stops, if it does.
+#[tactic(auto, unfolding(crate::specs::Step::call_stop))]
+fn call_stop(cpu: &Cpu) -> Option<Stop>
+    ensures { result ≡ call_stop cpu.now }
+{
+    if cpu.regs.sp % 8 != 0 {
+        return Some(Stop::BadState);
+    }
+    let sp = cpu.regs.sp.wrapping_sub(8);
+    if let Some(why) = limit_stop(sp, cpu) {
+        return Some(why);
+    }
+    if can_write(sp, 4) && can_write(sp.wrapping_add(4), 4) {
+        None
+    } else {
+        Some(Stop::Unmapped)
+    }
+}
+
+/// A call of Non-secure code: the return address and the word above it are pushed.
+#[tactic(auto, unfolding(crate::specs::Step::call_stop))]
+fn call(memory: &mut Memory, cpu: &mut Cpu, back: u32)
+    requires { call_stop cpu.old ≡ None }
+    ensures rom { memory.new.rom ≡ memory.old.rom }
+    ensures called { called back (state cpu.old memory.old.memory) ≡ state cpu.new memory.new.memory }
+{
+    let sp = cpu.regs.sp.wrapping_sub(8);
+    memory.store(sp, 4, back);
+    memory.store(sp.wrapping_add(4), 4, 0);
+    cpu.regs.sp = sp;
+    cpu.regs.lr = FUNCTION_RETURN + 1;
+}
+
+/// A call of the function return address: it returns at once, by the words that it pushed.
+#[tactic(auto, unfolding(crate::specs::Step::call_stop))]
+fn call_of_return(memory: &mut Memory, cpu: &mut Cpu, back: u32) -> Stepped
+    requires { call_stop cpu.old ≡ None }
+    ensures rom { memory.new.rom ≡ memory.old.rom }
+    ensures step { only_stopped (state cpu.old memory.old.memory) (return_to memory.old.rom (called back (state cpu.old memory.old.memory))) ≡ done cpu.new memory.new.memory result }
+{
+    let to = align(2, back);
+    let sp = cpu.regs.get(13);
+    memory.each_is_whole();
+    if !is_in_rom(to) {
+        return stop(cpu, Stop::BadState);
+    }
+    call(memory, cpu, back);
+    cpu.side = Side::Secure;
+    cpu.regs.sp = sp;
+    cpu.pc = to;
+    Stepped::Went
+}
+
+/// A call of Non-secure code at an address with bit 0 clear.
+fn call_nonsecure(memory: &mut Memory, cpu: &mut Cpu, v: u32, back: u32) -> Stepped
+    requires { call_stop cpu.old ≡ None }
+    ensures rom { memory.new.rom ≡ memory.old.rom }
+    ensures step { only_stopped (state cpu.old memory.old.memory) (called_at memory.old.rom v (called back (state cpu.old memory.old.memory))) ≡ done cpu.new memory.new.memory result }
+{
+    match goes_in(memory, v) {
+        Goes::Return => call_of_return(memory, cpu, back),
+        Goes::EntryPoint => stop(cpu, Stop::EntryPoint),
+        Goes::Astray => stop(cpu, Stop::Astray),
+        Goes::Enter(e) => {
+            call(memory, cpu, back);
+            enter(cpu, e);
+            Stepped::Went
+        }
+        Goes::Turn => {
+            call(memory, cpu, back);
+            let view = seen(cpu, v);
+            cpu.side = Side::NonSecure;
+            cpu.pc = v;
+            Stepped::Given(view)
+        }
+    }
+}
+
+/// BLXNS: with bit 0 set a call in Secure state, else one of Non-secure code.
+#[tactic(auto, unfolding(crate::specs::Step::blxns))]
+pub fn blxns(memory: &mut Memory, cpu: &mut Cpu, v: u32, size: u32) -> Stepped
+    requires { cpu.old.pc + size < 2 ^ 32 }
+    ensures rom { memory.new.rom ≡ memory.old.rom }
+    ensures step { blxns memory.old.rom v size (state cpu.old memory.old.memory) ≡ done cpu.new memory.new.memory result }
+{
+    let back = link(size, cpu);
+    if v % 2 == 0 {
+        if let Some(why) = call_stop(cpu) {
+            return stop(cpu, why);
+        }
+        return call_nonsecure(memory, cpu, v, back);
+    }
+    if !is_in_rom(v - 1) {
+        return stop(cpu, Stop::BadState);
+    }
+    cpu.regs.lr = back;
     cpu.pc = v - 1;
     Stepped::Went
 }

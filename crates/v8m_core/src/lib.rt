@@ -4,10 +4,12 @@
 mod applying;
 mod effect;
 mod gates;
+mod lists;
 mod machine;
 mod operands;
 mod stepped;
 mod turning;
+mod values;
 
 pub use effect::Effect;
 pub use machine::{Image, Machine};

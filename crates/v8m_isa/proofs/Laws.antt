@@ -7,11 +7,13 @@ use Rattle.v8m_isa.specs.Table.{in_range_of, size_of, code_of, Decoded, decode_o
 use Rattle.v8m_isa.specs.declared.table.Opcode.{Opcode}
 use Rattle.v8m_isa.specs.Choice.{chosen, choices}
 use Rattle.v8m_isa.proofs.TableLaws as table
-use Rattle.v8m_isa.proofs.TableLaws.{decode-code_of, code_of-decode, size_of_cases, size_by_top}
+use Rattle.v8m_isa.proofs.TableLaws.{size_by_top}
+use Rattle.v8m_isa.proofs.Encodings as encodings
+use Rattle.v8m_isa.proofs.Encodings.{decode-code_of, code_of-decode, size_of_cases}
 
 -- An instruction in range is what its halfwords are read as.
 pub decode_of-code_of : (i : Instr) → in_range_of i ≡ true → decode_of (code_of i).first (code_of i).second ≡ Some (record { instr = i; size = size_of i })
-decode_of-code_of i h = decode-code_of i (code_of i).second h (table.code_of_second i) (inr refl)
+decode_of-code_of i h = decode-code_of i (code_of i).second h (encodings.code_of_second i h) (inr refl)
 
 -- With one halfword it is so whatever comes next.
 pub decode_of-code_of_narrow : (i : Instr) (b : ℕ) → in_range_of i ≡ true → size_of i ≡ 2 → b < 2 ^ 16 → decode_of (code_of i).first b ≡ Some (record { instr = i; size = size_of i })
@@ -25,20 +27,20 @@ pub size_of_two_or_four : (i : Instr) → (size_of i ≡ 2) ⊎ (size_of i ≡ 4
 size_of_two_or_four i = size_of_cases i
 
 pub size-code_of : (i : Instr) → (code_of i).size ≡ size_of i
-size-code_of i = table.code_of_size i
+size-code_of i = encodings.code_of_size i
 
-pub first-code_of_lt : (i : Instr) → (code_of i).first < 2 ^ 16
-first-code_of_lt i = table.code_of_first i
+pub first-code_of_lt : (i : Instr) → in_range_of i ≡ true → (code_of i).first < 2 ^ 16
+first-code_of_lt i h = encodings.code_of_first i h
 
-pub second-code_of_lt : (i : Instr) → (code_of i).second < 2 ^ 16
-second-code_of_lt i = table.code_of_second i
+pub second-code_of_lt : (i : Instr) → in_range_of i ≡ true → (code_of i).second < 2 ^ 16
+second-code_of_lt i h = encodings.code_of_second i h
 
-pub second-code_of_narrow : (i : Instr) → size_of i ≡ 2 → (code_of i).second ≡ 0
-second-code_of_narrow i e = table.code_of_narrow i e
+pub second-code_of_narrow : (i : Instr) → in_range_of i ≡ true → size_of i ≡ 2 → (code_of i).second ≡ 0
+second-code_of_narrow i h e = encodings.code_of_narrow i h e
 
 -- The size of what is read is that of the instruction.
 pub size-decode_of : (a b : ℕ) (d : Decoded) → b < 2 ^ 16 → decode_of a b ≡ Some d → d.size ≡ size_of d.instr
-size-decode_of a b d lb e = sym (code_of-decode a b d lb e).has_size ∙ table.code_of_size d.instr
+size-decode_of a b d lb e = sym (code_of-decode a b d lb e).has_size ∙ encodings.code_of_size d.instr
 
 -- Whether a halfword is an instruction by itself.
 some_decoded : (c d : Decoded) → Some c ≡ Some d → c ≡ d
@@ -56,7 +58,7 @@ unfolding is_narrow
 narrow_reads a b h lb =
     let s = two_bytes (decode_of a 0) h in
     let r = code_of-decode a 0 s.0 (omega arith) s.1 in
-    let size : size_of s.0.instr ≡ 2 = sym (table.code_of_size s.0.instr) ∙ r.has_size ∙ s.2 in
+    let size : size_of s.0.instr ≡ 2 = sym (encodings.code_of_size s.0.instr) ∙ r.has_size ∙ s.2 in
     let again = decode-code_of s.0.instr b r.in_range lb (inl size) in
     let none_more = decode-code_of s.0.instr 0 r.in_range (omega arith) (inl size) in
     let at_b : decode_of a b ≡ Some (record { instr = s.0.instr; size = size_of s.0.instr }) = subst (λ x. decode_of x b ≡ Some (record { instr = s.0.instr; size = size_of s.0.instr })) r.has_first again in
@@ -81,7 +83,7 @@ unfolding is_narrow
 size-decode_of_wide a b d h lb e =
     ⊎_elim
     (λ s. let r = code_of-decode a b d lb e in
-    let size : size_of d.instr ≡ 2 = sym (table.code_of_size d.instr) ∙ r.has_size ∙ s.0 in
+    let size : size_of d.instr ≡ 2 = sym (encodings.code_of_size d.instr) ∙ r.has_size ∙ s.0 in
     let at_0 : decode_of a 0 ≡ Some (record { instr = d.instr; size = size_of d.instr }) = subst (λ x. decode_of x 0 ≡ Some (record { instr = d.instr; size = size_of d.instr })) r.has_first (decode-code_of d.instr 0 r.in_range (omega arith) (inl size)) in
     let two = two_bytes_some (decode_of a 0) (record { instr = d.instr; size = size_of d.instr }) at_0 in
     let yes_two : eqb (size_of d.instr) 2 ≡ true = eq-eqb (size_of d.instr) 2 size in
@@ -101,7 +103,7 @@ is_narrow-code_of i h =
     not_two : (x : Option Decoded) → decode_of (code_of i).first 0 ≡ x → size_of i ≡ 4 → is_of_two_bytes x ≡ eqb (size_of i) 2
     not_two None e s = grind (arith, nat_tests)
     not_two (Some d) e s =
-        let own = size_by_top (code_of i).first (code_of i).second (record { instr = i; size = size_of i }) (table.code_of_second i) (decode_of-code_of i h) in
+        let own = size_by_top (code_of i).first (code_of i).second (record { instr = i; size = size_of i }) (encodings.code_of_second i h) (decode_of-code_of i h) in
         let at_0 = size_by_top (code_of i).first 0 d (omega arith) e in
         grind (arith, nat_tests)
 

@@ -2,4 +2,5 @@ pub mod PieceLaws
 pub mod KindLaws
 pub mod RowLaws
 pub mod TableLaws
+pub mod Encodings
 pub mod Laws

@@ -1,48 +1,61 @@
 -- Laws of rows: a word of some numbers has those numbers, and its fixed bits.
-use Rattle.std.proofs.Common.{◌≡◌, ℕ, ◌+◌, ◌/◌, ◌%◌, ◌^◌, ◌<◌, ◌≤◌, Bool, true, ◌&&◌, List, [], ◌∷◌, ◌++◌, refl, sym, ap, ◌∙◌, subst, arith, bit_or, length, drop, take, get_or, slice_set}
+use Rattle.std.proofs.Common.{◌≡◌, ℕ, ◌+◌, ◌*◌, ◌/◌, ◌%◌, ◌^◌, ◌<◌, ◌≤◌, Bool, true, ◌&&◌, List, [], ◌∷◌, ◌++◌, refl, sym, ap, ◌∙◌, subst, arith, bit_or, length, drop, take, get_or, slice_set, bit_and}
 use Rattle.std.specs.Prelude.{eqb, ltb}
 use Rattle.std.specs.List.{list_all}
-use Rattle.std.specs.Int.Bits.{or_zero_r}
+use Rattle.std.specs.Int.Bits.{or_zero_l, or_zero_r}
 use Rattle.std.proofs.lemmas.Bool.Decides.{nat_tests}
 use Rattle.std.proofs.lemmas.List.{drop_more, drop_all, take_more_set, take_more, get_or-map, length-map}
-use Rattle.std.proofs.lemmas.Nat.{or_comm, or_lt, shl_below, mod_below, pow_pos}
+use Rattle.std.proofs.lemmas.Nat.{or_comm, or_disjoint, and_block, div-add-mod', and_le_l, and_le_r, or_lt, shl_below, mod_below, pow_pos}
 use Rattle.std.proofs.Math.Nat.{mod-eq_of_lt, pow-le-pow_right}
 use Rattle.v8m_isa.specs.declared.form.Piece.{Piece}
 use Rattle.v8m_isa.specs.declared.form.Field.{Field}
 use Rattle.v8m_isa.specs.declared.form.Kind.{Kind}
-use Rattle.v8m_isa.specs.Form.{put, put_all, is_in_word, are_in_word, all_in_word, bits_of, number_of, field_put, field_got, field_takes, fields_put, fields_got, all_taken, word_of, Row}
+use Rattle.v8m_isa.specs.declared.operand.Operand.{Operand}
+use Rattle.v8m_isa.specs.Form.{put, put_all, is_in_word, are_in_word, all_in_word, field_of, fields_of, bits_of, number_of, field_put, field_got, field_takes, fields_put, fields_got, all_taken, word_of, Row}
 use Rattle.v8m_isa.proofs.PieceLaws.{or_assoc, and_parts, slot, slot_or, slot_zero, slot_or_zero, slot-put_all, is_clear, AreZero, AreZero-zero, AreZero-or, AreZero-put, Show, width, is_whole, are_apart, got_all-show, show-put_all}
 use Rattle.v8m_isa.proofs.KindLaws.{has_width, shown}
 
 -- the loops over the fields
-pub fields_put_more : (fs : List Field) (vs : List ℕ) (k w y : ℕ) (d : Field) (e : ℕ) → k < length fs → k < length vs → y ≡ field_put (get_or fs k d) (get_or vs k e) → bit_or (bit_or w y) (fields_put (drop (k + 1) fs) (drop (k + 1) vs)) ≡ bit_or w (fields_put (drop k fs) (drop k vs))
+field_at : (os : List Operand) (k : ℕ) (d : Operand) → k < length os → get_or (fields_of os) k (field_of d) ≡ field_of (get_or os k d)
+field_at os k d lt = get_or-map field_of os k d (field_of d) lt
+
+more_fields : (os : List Operand) (k : ℕ) (d : Operand) → k < length os → drop k (fields_of os) ≡ field_of (get_or os k d) ∷ drop (k + 1) (fields_of os)
+more_fields os k d lt = drop_more (fields_of os) k (field_of d) (let l = length-map os field_of in omega arith) ∙ ap (λ f. f ∷ drop (k + 1) (fields_of os)) (field_at os k d lt)
+
+no_fields : (os : List Operand) (k : ℕ) → length os ≤ k → drop k (fields_of os) ≡ []
+no_fields os k le = drop_all k (fields_of os) (let l = length-map os field_of in omega arith)
+
+pub fields_put_more : (os : List Operand) (vs : List ℕ) (k w y : ℕ) (f : Field) (d : Operand) (e : ℕ) → k < length os → k < length vs → f ≡ field_of (get_or os k d) → y ≡ field_put f (get_or vs k e) → bit_or (bit_or w y) (fields_put (drop (k + 1) (fields_of os)) (drop (k + 1) vs)) ≡ bit_or w (fields_put (drop k (fields_of os)) (drop k vs))
 unfolding fields_put
-fields_put_more fs vs k w y d e lt lv is =
-    or_assoc w y (fields_put (drop (k + 1) fs) (drop (k + 1) vs))
-    ∙ ap (λ b. bit_or w (bit_or b (fields_put (drop (k + 1) fs) (drop (k + 1) vs)))) is
-    ∙ sym (ap (λ qs. bit_or w (fields_put qs (drop k vs))) (drop_more fs k d lt) ∙ ap (λ us. bit_or w (fields_put (get_or fs k d ∷ drop (k + 1) fs) us)) (drop_more vs k e lv))
+fields_put_more os vs k w y f d e lt lv same is =
+    let rest = fields_put (drop (k + 1) (fields_of os)) (drop (k + 1) vs) in
+    or_assoc w y (fields_put (drop (k + 1) (fields_of os)) (drop (k + 1) vs))
+    ∙ ap (λ b. bit_or w (bit_or b rest)) (is ∙ ap (λ g. field_put g (get_or vs k e)) same)
+    ∙ sym (ap (λ qs. bit_or w (fields_put qs (drop k vs))) (more_fields os k d lt) ∙ ap (λ us. bit_or w (fields_put (field_of (get_or os k d) ∷ drop (k + 1) (fields_of os)) us)) (drop_more vs k e lv))
 
-pub fields_put_end : (fs : List Field) (vs : List ℕ) (k w : ℕ) → length fs ≤ k → bit_or w (fields_put (drop k fs) (drop k vs)) ≡ w
+pub fields_put_end : (os : List Operand) (vs : List ℕ) (k w : ℕ) → length os ≤ k → bit_or w (fields_put (drop k (fields_of os)) (drop k vs)) ≡ w
 unfolding fields_put
-fields_put_end fs vs k w le = ap (λ qs. bit_or w (fields_put qs (drop k vs))) (drop_all k fs le) ∙ or_zero_r w
+fields_put_end os vs k w le = ap (λ qs. bit_or w (fields_put qs (drop k vs))) (no_fields os k le) ∙ or_zero_r w
 
-pub all_taken_more : (fs : List Field) (vs : List ℕ) (k : ℕ) (t : Bool) (d : Field) (e : ℕ) → k < length fs → k < length vs → t ≡ field_takes (get_or fs k d) (get_or vs k e) → all_taken (drop k fs) (drop k vs) ≡ (t && all_taken (drop (k + 1) fs) (drop (k + 1) vs))
+pub all_taken_more : (os : List Operand) (vs : List ℕ) (k : ℕ) (t : Bool) (f : Field) (d : Operand) (e : ℕ) → k < length os → k < length vs → f ≡ field_of (get_or os k d) → t ≡ field_takes f (get_or vs k e) → all_taken (drop k (fields_of os)) (drop k vs) ≡ (t && all_taken (drop (k + 1) (fields_of os)) (drop (k + 1) vs))
 unfolding all_taken
-all_taken_more fs vs k t d e lt lv is =
-    ap (λ qs. all_taken qs (drop k vs)) (drop_more fs k d lt)
-    ∙ ap (λ us. all_taken (get_or fs k d ∷ drop (k + 1) fs) us) (drop_more vs k e lv)
-    ∙ ap (λ b. b && all_taken (drop (k + 1) fs) (drop (k + 1) vs)) (sym is)
+all_taken_more os vs k t f d e lt lv same is =
+    ap (λ qs. all_taken qs (drop k vs)) (more_fields os k d lt)
+    ∙ ap (λ us. all_taken (field_of (get_or os k d) ∷ drop (k + 1) (fields_of os)) us) (drop_more vs k e lv)
+    ∙ ap (λ b. b && all_taken (drop (k + 1) (fields_of os)) (drop (k + 1) vs)) (sym (is ∙ ap (λ g. field_takes g (get_or vs k e)) same))
 
-pub all_taken_end : (fs : List Field) (vs : List ℕ) (k : ℕ) → length fs ≤ k → length vs ≤ k → all_taken (drop k fs) (drop k vs) ≡ true
+pub all_taken_end : (os : List Operand) (vs : List ℕ) (k : ℕ) → length os ≤ k → length vs ≤ k → all_taken (drop k (fields_of os)) (drop k vs) ≡ true
 unfolding all_taken
-all_taken_end fs vs k le lv = ap (λ qs. all_taken qs (drop k vs)) (drop_all k fs le) ∙ ap (all_taken []) (drop_all k vs lv)
+all_taken_end os vs k le lv = ap (λ qs. all_taken qs (drop k vs)) (no_fields os k le) ∙ ap (all_taken []) (drop_all k vs lv)
 
-pub fields_got_more : (fs : List Field) (vs : List ℕ) (w k y : ℕ) (d : Field) → k < length fs → length vs ≡ length fs → y ≡ field_got (get_or fs k d) w → take k vs ≡ take k (fields_got fs w) → take (k + 1) (slice_set vs k y) ≡ take (k + 1) (fields_got fs w)
-fields_got_more fs vs w k y d lt e is h =
+pub fields_got_more : (os : List Operand) (vs : List ℕ) (w k y : ℕ) (f : Field) (d : Operand) → k < length os → length vs ≡ length os → f ≡ field_of (get_or os k d) → y ≡ field_got f w → take k vs ≡ take k (fields_got (fields_of os) w) → take (k + 1) (slice_set vs k y) ≡ take (k + 1) (fields_got (fields_of os) w)
+fields_got_more os vs w k y f d lt e same is h =
+    let l = length-map os field_of in
+    let more : k < length (fields_of os) = omega arith in
     take_more_set vs k y (omega arith)
     ∙ ap (λ us. us ++ y ∷ []) h
-    ∙ ap (λ x. take k (fields_got fs w) ++ x ∷ []) (is ∙ sym (get_or-map (λ f. field_got f w) fs k d 0 lt))
-    ∙ sym (take_more (fields_got fs w) k 0 (let l = length-map fs (λ (f : Field). field_got f w) in omega arith))
+    ∙ ap (λ x. take k (fields_got (fields_of os) w) ++ x ∷ []) (is ∙ ap (λ g. field_got g w) (same ∙ sym (field_at os k d lt)) ∙ sym (get_or-map (λ g. field_got g w) (fields_of os) k (field_of d) 0 more))
+    ∙ sym (take_more (fields_got (fields_of os) w) k 0 (let m = length-map (fields_of os) (λ (g : Field). field_got g w) in omega arith))
 
 -- a slot apart from each piece of the fields
 abbrev pub is_clear_of : ℕ → ℕ → List Field → Bool
@@ -203,3 +216,67 @@ fields_put_lt (f ∷ fs) (v ∷ vs) h =
 pub word_of_lt : (r : Row) (vs : List ℕ) → r.base < 2 ^ 32 → all_in_word r.fields ≡ true → word_of r vs < 2 ^ 32
 unfolding word_of
 word_of_lt r vs lt h = or_lt 32 r.base (fields_put r.fields vs) lt (fields_put_lt r.fields vs h)
+
+-- a row's word is a sum
+abbrev pub sum_put : List Piece → ℕ → ℕ
+sum_put [] x = 0
+sum_put (p ∷ ps) x = put p x + sum_put ps x
+
+abbrev pub fields_sum : List Field → List ℕ → ℕ
+fields_sum [] vs = 0
+fields_sum (f ∷ fs) [] = 0
+fields_sum (f ∷ fs) (v ∷ vs) = sum_put f.pieces (bits_of f.kind v) + fields_sum fs vs
+
+and_zero_l : (a : ℕ) → bit_and 0 a ≡ 0
+and_zero_l a = let le = and_le_l 0 a in omega arith
+
+and_zero_r : (a : ℕ) → bit_and a 0 ≡ 0
+and_zero_r a = let le = and_le_r a 0 in omega arith
+
+and_low : (wide z h : ℕ) → z < 2 ^ wide → h % 2 ^ wide ≡ 0 → bit_and z h ≡ 0
+and_low wide z h lt e =
+    let k : h ≡ h / 2 ^ wide * 2 ^ wide + 0 = sym (div-add-mod' h (2 ^ wide)) ∙ ap (λ r. h / 2 ^ wide * 2 ^ wide + r) e in
+    let j : z ≡ 0 * 2 ^ wide + z = omega arith in
+    ap (bit_and z) k
+    ∙ ap (λ y. bit_and y (h / 2 ^ wide * 2 ^ wide + 0)) j
+    ∙ and_block wide 0 (h / 2 ^ wide) z 0 lt (pow_pos wide)
+    ∙ ap (λ y. y * 2 ^ wide + bit_and z 0) (and_zero_l (h / 2 ^ wide))
+    ∙ (let t = and_zero_r z in omega arith)
+
+put_apart : (p : Piece) (x y : ℕ) → slot p.at p.wide y ≡ 0 → bit_and (put p x) y ≡ 0
+put_apart p x y e =
+    let z = x / 2 ^ p.from % 2 ^ p.wide in
+    let lt : x / 2 ^ p.from % 2 ^ p.wide < 2 ^ p.wide = mod_below (x / 2 ^ p.from) (2 ^ p.wide) (pow_pos p.wide) in
+    let a : put p x ≡ x / 2 ^ p.from % 2 ^ p.wide * 2 ^ p.at + 0 = omega arith in
+    let b : y ≡ y / 2 ^ p.at * 2 ^ p.at + y % 2 ^ p.at = sym (div-add-mod' y (2 ^ p.at)) in
+    ap (λ u. bit_and u y) a
+    ∙ ap (bit_and (z * 2 ^ p.at + 0)) b
+    ∙ and_block p.at z (y / 2 ^ p.at) 0 (y % 2 ^ p.at) (pow_pos p.at) (mod_below y (2 ^ p.at) (pow_pos p.at))
+    ∙ ap (λ u. u * 2 ^ p.at + bit_and 0 (y % 2 ^ p.at)) (and_low p.wide z (y / 2 ^ p.at) lt e)
+    ∙ (let t = and_zero_l (y % 2 ^ p.at) in omega arith)
+
+put_or : (p : Piece) (x y : ℕ) → slot p.at p.wide y ≡ 0 → bit_or (put p x) y ≡ put p x + y
+put_or p x y e = or_disjoint (put p x) y (put_apart p x y e)
+
+pieces_or : (ps : List Piece) (x y : ℕ) → are_apart ps ≡ true → AreZero ps y → bit_or (put_all ps x) y ≡ sum_put ps x + y
+unfolding put_all
+pieces_or [] x y h z = or_zero_l y ∙ omega arith
+pieces_or (p ∷ ps) x y h z =
+    let parts = and_parts (is_clear p.at p.wide ps) (are_apart ps) h in
+    let here = slot_or_zero p.at p.wide (put_all ps x) y (slot-put_all p.at p.wide ps x parts.0) z.0 in
+    let rest = pieces_or ps x y parts.1 z.1 in
+    or_assoc (put p x) (put_all ps x) y ∙ put_or p x (bit_or (put_all ps x) y) here ∙ (let r = rest in omega arith)
+
+fields_or : (base : ℕ) (fs : List Field) (vs : List ℕ) (y : ℕ) → are_sound base fs ≡ true → AreAllZero fs y → bit_or y (fields_put fs vs) ≡ y + fields_sum fs vs
+unfolding fields_put
+fields_or base [] vs y h z = or_zero_r y ∙ omega arith
+fields_or base (f ∷ fs) [] y h z = or_zero_r y ∙ omega arith
+fields_or base (f ∷ fs) (v ∷ vs) y h z =
+    let s = sound_parts base f fs h in
+    let first : bit_or y (field_put f v) ≡ sum_put f.pieces (bits_of f.kind v) + y = or_comm y (field_put f v) ∙ pieces_or f.pieces (bits_of f.kind v) y s.apart z.0 in
+    let rest = fields_or base fs vs (bit_or y (field_put f v)) s.rest (AreAllZero-or fs y (field_put f v) z.1 (AreAllZero-put_all f.pieces fs (bits_of f.kind v) s.clear)) in
+    sym (or_assoc y (field_put f v) (fields_put fs vs)) ∙ rest ∙ (let t = first in omega arith)
+
+pub word_of-sum : (r : Row) (vs : List ℕ) → are_sound r.base r.fields ≡ true → word_of r vs ≡ r.base + fields_sum r.fields vs
+unfolding word_of
+word_of-sum r vs h = fields_or r.base r.fields vs r.base h (AreAllZero-from r.base r.fields h)

@@ -3,33 +3,89 @@ use Rattle.std.proofs.Common.{◌≡◌, ℕ, ◌+◌, ◌-◌, ◌*◌, ◌/◌
 use Rattle.std.specs.Prelude.{eqb, ltb, leb, slice_index, slice_index_or, option_map}
 use Rattle.std.specs.Int.Bits.{or_zero_l}
 use Rattle.std.proofs.lemmas.Bool.Decides.{nat_tests}
+use Rattle.std.proofs.Math.Nat.{mod-one}
 use Rattle.std.proofs.lemmas.Nat.{shr-shr, or_shifted, div-mul-add, mod-mul-add}
 use Rattle.v8m_isa.specs.declared.instr.Instr.{Instr}
-use Rattle.v8m_isa.specs.declared.instr.Instr.TheVariants.{Mov, Bxns, Udf, Sg, Movw, Movt, Bic, Ldr, Str, B, Msr}
+use Rattle.v8m_isa.specs.declared.instr.Instr.TheVariants.{Nop, Mov, Bx, Bxns, Blxns, Udf, Sg, Movw, Movt, Addw, Subw, Add, Sub, Rsb, Cmp, And, Bic, Orr, Eor, Mvn, Lsl, Lsr, Asr, Sxtb, Sxth, Uxtb, Uxth, Mul, Mls, Sdiv, Udiv, Ldr, Ldrb, Ldrh, Ldrsb, Ldrsh, Str, Strb, Strh, Stmdb, Ldmia, B, Bl, Bc, Msr, Mrs, Tt, Ttt, Tta, Ttat}
 use Rattle.v8m_isa.specs.declared.instr.Code.{Code}
 use Rattle.v8m_isa.specs.declared.form.Field.{Field}
 use Rattle.v8m_isa.specs.declared.table.Opcode.{Opcode}
 use Rattle.v8m_isa.specs.declared.table.Opcode.TheVariants as op
-use Rattle.v8m_isa.specs.declared.table.TheConstants.{BLANK}
-use Rattle.v8m_isa.specs.Form.{Row, takes, field_takes, fields_got, all_taken, all_in_word, word_of, row_size, row_code, word_in, fits}
-use Rattle.v8m_isa.specs.Table.{opcodes, row_of, opcode_of, numbers_of, instr_of, in_range_of, size_of, code_of, Decoded, read_by, or_else, first_of, decode_of, IsReadAs}
+use Rattle.v8m_isa.specs.declared.operand.TheConstants.{BLANK, CONDITION}
+use Rattle.v8m_isa.specs.Form.{Row, got_all, number_of, takes, field_takes, field_of, fields_got, all_taken, is_kept, row_takes, all_in_word, word_of, row_size, row_code, word_in, fits}
+use Rattle.v8m_isa.specs.Table.{opcodes, row_of, opcode_of, numbers_of, instr_of, Decoded, read_by, or_else, first_of, decode_of}
 use Rattle.v8m_isa.specs.Choice.{Choice, none, only, first_is, second_is, chosen, choices}
-use Rattle.v8m_isa.proofs.PieceLaws.{and_parts, or_parts, slot, slot_or, above}
+use Rattle.v8m_isa.proofs.PieceLaws.{and_parts, or_parts, slot, slot_or, above, got_all-show}
 use Rattle.v8m_isa.proofs.RowLaws.{is_clear_of, are_sound, slot-word_of, fields_got-word_of, word_of_lt}
+
+-- an instruction's range, size and halfwords by its row
+unfoldable pub taken_of : Instr → Bool
+taken_of i = row_takes (row_of (opcode_of i)) (numbers_of i)
+
+unfoldable pub row_size_of : Instr → ℕ
+row_size_of i = row_size (row_of (opcode_of i))
+
+unfoldable pub row_code_of : Instr → Code
+row_code_of i = row_code (row_of (opcode_of i)) (numbers_of i)
+
+pub record IsRowOf (first second : ℕ) (i : Instr) (size : ℕ) : Type 0 where
+  pub in_range : taken_of i ≡ true
+  pub has_size : (row_code_of i).size ≡ size
+  pub has_first : (row_code_of i).first ≡ first
+  pub has_second : size ≡ 4 → (row_code_of i).second ≡ second
 
 -- rows by their places in the manual's order
 abbrev pub number : Opcode → ℕ
-number op.Mov = 0
-number op.Bxns = 1
-number op.Udf = 2
-number op.Sg = 3
-number op.Movw = 4
-number op.Movt = 5
-number op.Bic = 6
-number op.Ldr = 7
-number op.Str = 8
-number op.B = 9
-number op.Msr = 10
+number op.Nop = 0
+number op.Mov = 1
+number op.Bx = 2
+number op.Bxns = 3
+number op.Blxns = 4
+number op.Udf = 5
+number op.Sg = 6
+number op.Movw = 7
+number op.Movt = 8
+number op.Addw = 9
+number op.Subw = 10
+number op.Add = 11
+number op.Sub = 12
+number op.Rsb = 13
+number op.Cmp = 14
+number op.And = 15
+number op.Bic = 16
+number op.Orr = 17
+number op.Eor = 18
+number op.Mvn = 19
+number op.Lsl = 20
+number op.Lsr = 21
+number op.Asr = 22
+number op.Sxtb = 23
+number op.Sxth = 24
+number op.Uxtb = 25
+number op.Uxth = 26
+number op.Mul = 27
+number op.Mls = 28
+number op.Sdiv = 29
+number op.Udiv = 30
+number op.Ldr = 31
+number op.Ldrb = 32
+number op.Ldrh = 33
+number op.Ldrsb = 34
+number op.Ldrsh = 35
+number op.Str = 36
+number op.Strb = 37
+number op.Strh = 38
+number op.Stmdb = 39
+number op.Ldmia = 40
+number op.B = 41
+number op.Bl = 42
+number op.Bc = 43
+number op.Msr = 44
+number op.Mrs = 45
+number op.Tt = 46
+number op.Ttt = 47
+number op.Tta = 48
+number op.Ttat = 49
 
 opcode_at-number : (o : Opcode) → slice_index_or opcodes (number o) op.Mov ≡ o
 opcode_at-number op.Mov = refl
@@ -50,10 +106,14 @@ all_there _ = refl
 abbrev by_test : Bool → Bool → Bool → Bool → Bool
 by_test fixed same this other = cond fixed (cond same this other) (this && other)
 
+-- the condition of B is none of 14 and 15
+abbrev is_never : ℕ → ℕ → ℕ → ℕ → Bool
+is_never n at wide x = eqb n (number op.Bc) && (eqb at 7 && (eqb wide 3 && eqb x 7))
+
 abbrev reaches : Row → ℕ → Choice → Bool
 reaches r n none = false
 reaches r n (only o) = eqb (number o) n
-reaches r n (first_is at wide x this other) = by_test (is_clear_of (16 + at) wide r.fields) (eqb (slot (16 + at) wide r.base) x) (reaches r n this) (reaches r n other)
+reaches r n (first_is at wide x this other) = cond (is_never n at wide x) (reaches r n other) (by_test (is_clear_of (16 + at) wide r.fields) (eqb (slot (16 + at) wide r.base) x) (reaches r n this) (reaches r n other))
 reaches r n (second_is at wide x this other) = by_test (r.wide && (leb (at + wide) 16 && is_clear_of at wide r.fields)) (eqb (slot at wide r.base) x) (reaches r n this) (reaches r n other)
 
 -- a row of one halfword has no bit below bit 16, and one of two halfwords begins with 11101, 11110 or 11111
@@ -65,12 +125,12 @@ is_good r n = are_sound r.base r.fields && (ltb r.base 4294967296 && (all_in_wor
 
 -- the test of the whole table
 table_is_good : (o : Opcode) → is_good (row_of o) (number o) ≡ true
-unfolding row_of choices
+unfolding row_of field_of choices
 table_is_good op.Mov = refl
 table_is_good _ = refl
 
-record IsGood (r : Row) (n : ℕ) : Type 0 where
-  sound : are_sound r.base r.fields ≡ true
+pub record IsGood (r : Row) (n : ℕ) : Type 0 where
+  pub sound : are_sound r.base r.fields ≡ true
   base : r.base < 2 ^ 32
   in_word : all_in_word r.fields ≡ true
   low : (r.wide || (is_clear_of 0 16 r.fields && eqb (slot 0 16 r.base) 0)) ≡ true
@@ -88,7 +148,7 @@ good_parts r n h =
     let f = and_parts (is_clear_of 27 5 r.fields) _ e.1 in
     record { sound = a.0; base = (let t = b.0 in grind (arith, nat_tests)); in_word = c.0; low = e.0; top = f.0; top_of = f.1; reach = d.1 }
 
-good_row : (o : Opcode) → IsGood (row_of o) (number o)
+pub good_row : (o : Opcode) → IsGood (row_of o) (number o)
 good_row o = good_parts (row_of o) (number o) (table_is_good o)
 
 -- the word that is held against a row, by its halfwords
@@ -110,14 +170,17 @@ second_slot a b at wide lb le =
 wide_second : (t : Bool) (b : ℕ) → t ≡ true → cond t b 0 ≡ b
 wide_second t b e = ap (λ u. cond u b 0) e
 
+each_taken : (r : Row) (vs : List ℕ) → row_takes r vs ≡ true → all_taken r.fields vs ≡ true
+each_taken r vs t = (and_parts (all_taken r.fields vs) (is_kept r.rule vs) t).0
+
 -- a word that fits a row has the row's fixed bits
 pub record Fits (r : Row) (w : ℕ) : Type 0 where
-  pub taken : all_taken r.fields (fields_got r.fields w) ≡ true
+  pub taken : row_takes r (fields_got r.fields w) ≡ true
   pub is_word : word_of r (fields_got r.fields w) ≡ w
 
 fits_parts : (r : Row) (w : ℕ) → fits r w ≡ true → Fits r w
 fits_parts r w h =
-    let parts = and_parts (all_taken r.fields (fields_got r.fields w)) (eqb (word_of r (fields_got r.fields w)) w) h in
+    let parts = and_parts (row_takes r (fields_got r.fields w)) (eqb (word_of r (fields_got r.fields w)) w) h in
     record { taken = parts.0; is_word = (let t = parts.1 in grind (arith, nat_tests)) }
 
 fixed_slot : (r : Row) (w at wide : ℕ) → Fits r w → is_clear_of at wide r.fields ≡ true → slot at wide w ≡ slot at wide r.base
@@ -136,30 +199,73 @@ cond_both false x y z e f = f
 three_parts : (a b c : Bool) → (a && (b && c)) ≡ true → (a ≡ true) × (b ≡ true) × (c ≡ true)
 three_parts a b c h = let p = and_parts a (b && c) h in let q = and_parts b c p.1 in (p.0, q.0, q.1)
 
-reach : (t : Choice) (r : Row) (o : Opcode) (a b : ℕ) → b < 2 ^ 16 → Fits r (word_in r a b) → reaches r (number o) t ≡ true → chosen t a b ≡ Some o
-reach none r o a b lb f h = cc
-reach (only q) r o a b lb f h = ap Some (number_same q o (grind (arith, nat_tests)))
-reach (first_is at wide x this other) r o a b lb f h =
+cond_parts : (t other rest : Bool) → cond t other rest ≡ true → ((t ≡ true) × (other ≡ true)) ⊎ (rest ≡ true)
+cond_parts true other rest h = inl (refl, h)
+cond_parts false other rest h = inr h
+
+-- the condition of a branch, as its word shows it
+condition_got : (w : ℕ) → got_all CONDITION.pieces w ≡ slot 22 4 w
+condition_got w =
+    let here : slot 22 4 w ≡ slot 22 4 w / 2 ^ 0 % 2 ^ 4 = omega arith in
+    let none_there : slot 0 0 w ≡ slot 22 4 w / 2 ^ 0 % 2 ^ 0 = mod-one _ ∙ sym (mod-one _) in
+    got_all-show CONDITION.pieces w (slot 22 4 w) refl (here, (none_there, (none_there, (none_there, (none_there, tt)))))
+    ∙ mod_again w
+  where
+    mod_again : (w : ℕ) → slot 22 4 w % 2 ^ 4 ≡ slot 22 4 w
+    mod_again w = omega arith
+
+condition_lt : (w : ℕ) → Fits (row_of op.Bc) w → slot 22 4 w < 14
+unfolding row_of field_of all_taken takes number_of
+condition_lt w f =
+    let taken = each_taken (row_of op.Bc) (fields_got (row_of op.Bc).fields w) f.taken in
+    let lt : ltb (got_all CONDITION.pieces w) 14 ≡ true = (and_parts _ _ taken).0 in
+    let e = condition_got w in
+    grind (arith, nat_tests)
+
+never_seven : (a : ℕ) → slot 6 4 a < 14 → eqb (slot 7 3 a) 7 ≡ false
+never_seven a h = grind (arith, nat_tests)
+
+never : (r : Row) (o : Opcode) (at wide x a b : ℕ) → r ≡ row_of o → b < 2 ^ 16 → Fits r (word_in r a b) → is_never (number o) at wide x ≡ true → eqb (slot at wide a) x ≡ false
+never r o at wide x a b is lb f h =
+    let p = and_parts (eqb (number o) (number op.Bc)) _ h in
+    let q = three_parts (eqb at 7) (eqb wide 3) (eqb x 7) p.1 in
+    let branch : o ≡ op.Bc = number_same o op.Bc (let t = p.0 in grind (arith, nat_tests)) in
+    let row_is : r ≡ row_of op.Bc = is ∙ ap row_of branch in
+    let low : slot 22 4 (word_in r a b) < 14 = condition_lt (word_in r a b) (subst (λ s. Fits s (word_in r a b)) row_is f) in
+    let high : slot 22 4 (word_in r a b) ≡ slot 6 4 a = first_slot r a b 6 4 lb in
+    let seven : eqb (slot 7 3 a) 7 ≡ false = never_seven a (subst (λ y. y < 14) high low) in
+    let at_is : at ≡ 7 = (let t = q.0 in grind (arith, nat_tests)) in
+    let wide_is : wide ≡ 3 = (let t = q.1 in grind (arith, nat_tests)) in
+    let x_is : x ≡ 7 = (let t = q.2 in grind (arith, nat_tests)) in
+    ap (λ y. eqb (slot y wide a) x) at_is ∙ ap (λ y. eqb (slot 7 y a) x) wide_is ∙ ap (λ y. eqb (slot 7 3 a) y) x_is ∙ seven
+
+reach : (t : Choice) (r : Row) (o : Opcode) (a b : ℕ) → r ≡ row_of o → b < 2 ^ 16 → Fits r (word_in r a b) → reaches r (number o) t ≡ true → chosen t a b ≡ Some o
+reach none r o a b is lb f h = cc
+reach (only q) r o a b is lb f h = ap Some (number_same q o (grind (arith, nat_tests)))
+reach (first_is at wide x this other) r o a b is lb f h =
     ⊎_elim
+    (λ n. ap (λ t. cond t (chosen this a b) (chosen other a b)) (never r o at wide x a b is lb f n.0) ∙ reach other r o a b is lb f n.1)
+    (λ g. ⊎_elim
     (λ s. let e : slot at wide a ≡ slot (16 + at) wide r.base = sym (first_slot r a b at wide lb) ∙ fixed_slot r (word_in r a b) (16 + at) wide f s.0 in
-    ap (λ v. cond (eqb v x) (chosen this a b) (chosen other a b)) e ∙ ap (λ t. cond t (chosen this a b) (chosen other a b)) s.1 ∙ reach this r o a b lb f s.2)
+    ap (λ v. cond (eqb v x) (chosen this a b) (chosen other a b)) e ∙ ap (λ t. cond t (chosen this a b) (chosen other a b)) s.1 ∙ reach this r o a b is lb f s.2)
     (λ m. ⊎_elim
     (λ s. let e : slot at wide a ≡ slot (16 + at) wide r.base = sym (first_slot r a b at wide lb) ∙ fixed_slot r (word_in r a b) (16 + at) wide f s.0 in
-    ap (λ v. cond (eqb v x) (chosen this a b) (chosen other a b)) e ∙ ap (λ t. cond t (chosen this a b) (chosen other a b)) s.1 ∙ reach other r o a b lb f s.2)
-    (λ s. cond_both (eqb (slot at wide a) x) (chosen this a b) (chosen other a b) (Some o) (reach this r o a b lb f s.0) (reach other r o a b lb f s.1))
+    ap (λ v. cond (eqb v x) (chosen this a b) (chosen other a b)) e ∙ ap (λ t. cond t (chosen this a b) (chosen other a b)) s.1 ∙ reach other r o a b is lb f s.2)
+    (λ s. cond_both (eqb (slot at wide a) x) (chosen this a b) (chosen other a b) (Some o) (reach this r o a b is lb f s.0) (reach other r o a b is lb f s.1))
     m)
-    (by_test_means (is_clear_of (16 + at) wide r.fields) (eqb (slot (16 + at) wide r.base) x) (reaches r (number o) this) (reaches r (number o) other) h)
-reach (second_is at wide x this other) r o a b lb f h =
+    (by_test_means (is_clear_of (16 + at) wide r.fields) (eqb (slot (16 + at) wide r.base) x) (reaches r (number o) this) (reaches r (number o) other) g))
+    (cond_parts (is_never (number o) at wide x) (reaches r (number o) other) (by_test (is_clear_of (16 + at) wide r.fields) (eqb (slot (16 + at) wide r.base) x) (reaches r (number o) this) (reaches r (number o) other)) h)
+reach (second_is at wide x this other) r o a b is lb f h =
     let same : (r.wide && (leb (at + wide) 16 && is_clear_of at wide r.fields)) ≡ true → slot at wide b ≡ slot at wide r.base = λ g.
     let p = three_parts r.wide (leb (at + wide) 16) (is_clear_of at wide r.fields) g in
     let le : at + wide ≤ 16 = (let q = p.1 in grind (arith, nat_tests)) in
     sym (second_slot a b at wide lb le) ∙ ap (λ l. slot at wide (a * 2 ^ 16 + l)) (sym (wide_second r.wide b p.0)) ∙ fixed_slot r (word_in r a b) at wide f p.2
     in
     ⊎_elim
-    (λ s. ap (λ v. cond (eqb v x) (chosen this a b) (chosen other a b)) (same s.0) ∙ ap (λ t. cond t (chosen this a b) (chosen other a b)) s.1 ∙ reach this r o a b lb f s.2)
+    (λ s. ap (λ v. cond (eqb v x) (chosen this a b) (chosen other a b)) (same s.0) ∙ ap (λ t. cond t (chosen this a b) (chosen other a b)) s.1 ∙ reach this r o a b is lb f s.2)
     (λ m. ⊎_elim
-    (λ s. ap (λ v. cond (eqb v x) (chosen this a b) (chosen other a b)) (same s.0) ∙ ap (λ t. cond t (chosen this a b) (chosen other a b)) s.1 ∙ reach other r o a b lb f s.2)
-    (λ s. cond_both (eqb (slot at wide b) x) (chosen this a b) (chosen other a b) (Some o) (reach this r o a b lb f s.0) (reach other r o a b lb f s.1))
+    (λ s. ap (λ v. cond (eqb v x) (chosen this a b) (chosen other a b)) (same s.0) ∙ ap (λ t. cond t (chosen this a b) (chosen other a b)) s.1 ∙ reach other r o a b is lb f s.2)
+    (λ s. cond_both (eqb (slot at wide b) x) (chosen this a b) (chosen other a b) (Some o) (reach this r o a b is lb f s.0) (reach other r o a b is lb f s.1))
     m)
     (by_test_means (r.wide && (leb (at + wide) 16 && is_clear_of at wide r.fields)) (eqb (slot at wide r.base) x) (reaches r (number o) this) (reaches r (number o) other) h)
 
@@ -193,7 +299,7 @@ read_fits o a b h = ap (λ t. option_map (made o) (cond t (Some (numbers_by o a 
 
 -- only the chosen row can read the halfwords
 pub read_chosen : (o : Opcode) (a b : ℕ) (d : Decoded) → b < 2 ^ 16 → read_by o a b ≡ Some d → chosen choices a b ≡ Some o
-read_chosen o a b d lb e = reach choices (row_of o) o a b lb (fits_parts (row_of o) (word_by o a b) (read_some o a b d e).0) (good_row o).reach
+read_chosen o a b d lb e = reach choices (row_of o) o a b refl lb (fits_parts (row_of o) (word_by o a b) (read_some o a b d e).0) (good_row o).reach
 
 else_step : (x rest : Option Decoded) (d : Decoded) → (x ≡ None → rest ≡ Some d) → ((e : Decoded) → x ≡ Some e → x ≡ Some d) → or_else x rest ≡ Some d
 else_step None rest d n s = n refl
@@ -254,9 +360,9 @@ pub decode_is : (a b : ℕ) → b < 2 ^ 16 → decode_of a b ≡ read_of (chosen
 decode_is a b lb = at_chosen (chosen choices a b) a b lb refl
 
 -- a row's word, by its halfwords, fits the row
-own_fits : (r : Row) (vs : List ℕ) → are_sound r.base r.fields ≡ true → all_taken r.fields vs ≡ true → fits r (word_of r vs) ≡ true
+own_fits : (r : Row) (vs : List ℕ) → are_sound r.base r.fields ≡ true → row_takes r vs ≡ true → fits r (word_of r vs) ≡ true
 own_fits r vs s t =
-    ap (λ us. all_taken r.fields us && eqb (word_of r us) (word_of r vs)) (fields_got-word_of r vs s t)
+    ap (λ us. row_takes r us && eqb (word_of r us) (word_of r vs)) (fields_got-word_of r vs s (each_taken r vs t))
     ∙ ap (λ x. x && eqb (word_of r vs) (word_of r vs)) t
     ∙ eq-eqb (word_of r vs) (word_of r vs) refl
 
@@ -279,23 +385,62 @@ own_word r n vs b g h = at r.wide refl
 
 instr_back : (i : Instr) → instr_of (opcode_of i) (numbers_of i) ≡ i
 unfolding instr_of opcode_of numbers_of
+instr_back Nop = refl
 instr_back (Mov d m) = refl
+instr_back (Bx m) = refl
 instr_back (Bxns m) = refl
+instr_back (Blxns m) = refl
 instr_back (Udf i) = refl
 instr_back Sg = refl
 instr_back (Movw d i) = refl
 instr_back (Movt d i) = refl
+instr_back (Addw d n i) = refl
+instr_back (Subw d n i) = refl
+instr_back (Add d n m) = refl
+instr_back (Sub d n m) = refl
+instr_back (Rsb d n m) = refl
+instr_back (Cmp n m) = refl
+instr_back (And d n m) = refl
 instr_back (Bic d n m) = refl
+instr_back (Orr d n m) = refl
+instr_back (Eor d n m) = refl
+instr_back (Mvn d m) = refl
+instr_back (Lsl d n m) = refl
+instr_back (Lsr d n m) = refl
+instr_back (Asr d n m) = refl
+instr_back (Sxtb d m) = refl
+instr_back (Sxth d m) = refl
+instr_back (Uxtb d m) = refl
+instr_back (Uxth d m) = refl
+instr_back (Mul d n m) = refl
+instr_back (Mls d n m a) = refl
+instr_back (Sdiv d n m) = refl
+instr_back (Udiv d n m) = refl
 instr_back (Ldr t n i) = refl
+instr_back (Ldrb t n i) = refl
+instr_back (Ldrh t n i) = refl
+instr_back (Ldrsb t n i) = refl
+instr_back (Ldrsh t n i) = refl
 instr_back (Str t n i) = refl
+instr_back (Strb t n i) = refl
+instr_back (Strh t n i) = refl
+instr_back (Stmdb list) = refl
+instr_back (Ldmia list) = refl
 instr_back (B off) = refl
+instr_back (Bl off) = refl
+instr_back (Bc c off) = refl
 instr_back (Msr s n) = refl
+instr_back (Mrs d s) = refl
+instr_back (Tt d n) = refl
+instr_back (Ttt d n) = refl
+instr_back (Tta d n) = refl
+instr_back (Ttat d n) = refl
 
 abbrev decoded : Instr → Decoded
-decoded i = record { instr = i; size = size_of i }
+decoded i = record { instr = i; size = row_size_of i }
 
-read_own : (i : Instr) (b : ℕ) → in_range_of i ≡ true → (size_of i ≡ 2) ⊎ (b ≡ (code_of i).second) → read_by (opcode_of i) (code_of i).first b ≡ Some (decoded i)
-unfolding in_range_of size_of code_of
+read_own : (i : Instr) (b : ℕ) → taken_of i ≡ true → (row_size_of i ≡ 2) ⊎ (b ≡ (row_code_of i).second) → read_by (opcode_of i) (row_code_of i).first b ≡ Some (decoded i)
+unfolding taken_of row_size_of row_code_of
 read_own i b h s =
     let o = opcode_of i in
     let r = row_of (opcode_of i) in
@@ -304,16 +449,16 @@ read_own i b h s =
     let f : fits (row_of (opcode_of i)) (word_in (row_of (opcode_of i)) (word_of (row_of (opcode_of i)) (numbers_of i) / 2 ^ 16) b) ≡ true = ap (fits r) w ∙ own_fits r (numbers_of i) g.sound h in
     read_fits o (word_of r (numbers_of i) / 2 ^ 16) b f
     ∙ ap (λ x. Some (made o (fields_got r.fields x))) w
-    ∙ ap (λ v. Some (made o v)) (fields_got-word_of r (numbers_of i) g.sound h)
+    ∙ ap (λ v. Some (made o v)) (fields_got-word_of r (numbers_of i) g.sound (each_taken r (numbers_of i) h))
     ∙ ap (λ j. Some (record { instr = j; size = row_size r })) (instr_back i)
 
 -- an instruction's halfwords are read as the instruction, with any second one where it has one halfword
-pub decode-code_of : (i : Instr) (b : ℕ) → in_range_of i ≡ true → b < 2 ^ 16 → (size_of i ≡ 2) ⊎ (b ≡ (code_of i).second) → decode_of (code_of i).first b ≡ Some (record { instr = i; size = size_of i })
+pub decode-code_of : (i : Instr) (b : ℕ) → taken_of i ≡ true → b < 2 ^ 16 → (row_size_of i ≡ 2) ⊎ (b ≡ (row_code_of i).second) → decode_of (row_code_of i).first b ≡ Some (record { instr = i; size = row_size_of i })
 unfolding decode_of
 decode-code_of i b h lb s =
     let own = read_own i b h s in
-    first_found opcodes (opcode_of i) (code_of i).first b (decoded i)
-    (λ o e q. some_same o (opcode_of i) (sym (read_chosen o (code_of i).first b e lb q) ∙ read_chosen (opcode_of i) (code_of i).first b (decoded i) lb own))
+    first_found opcodes (opcode_of i) (row_code_of i).first b (decoded i)
+    (λ o e q. some_same o (opcode_of i) (sym (read_chosen o (row_code_of i).first b e lb q) ∙ read_chosen (opcode_of i) (row_code_of i).first b (decoded i) lb own))
     own (all_there (opcode_of i))
 
 -- the numbers that a row takes are those of its instruction
@@ -368,29 +513,68 @@ opcode_back op.Mov vs = refl
 opcode_back _ vs = refl
 
 numbers_back : (o : Opcode) (vs : List ℕ) → all_taken (row_of o).fields vs ≡ true → numbers_of (instr_of o vs) ≡ vs
-unfolding numbers_of instr_of row_of
+unfolding numbers_of instr_of row_of field_of
+numbers_back op.Nop vs h = with_none vs h
 numbers_back op.Mov vs h = with_two _ _ vs h
+numbers_back op.Bx vs h = with_one _ vs h
 numbers_back op.Bxns vs h = with_one _ vs h
+numbers_back op.Blxns vs h = with_one _ vs h
 numbers_back op.Udf vs h = with_one _ vs h
 numbers_back op.Sg vs h = with_none vs h
 numbers_back op.Movw vs h = with_two _ _ vs h
 numbers_back op.Movt vs h = with_two _ _ vs h
+numbers_back op.Addw vs h = with_three _ _ _ vs h
+numbers_back op.Subw vs h = with_three _ _ _ vs h
+numbers_back op.Add vs h = with_three _ _ _ vs h
+numbers_back op.Sub vs h = with_three _ _ _ vs h
+numbers_back op.Rsb vs h = with_three _ _ _ vs h
+numbers_back op.Cmp vs h = with_two _ _ vs h
+numbers_back op.And vs h = with_three _ _ _ vs h
 numbers_back op.Bic vs h = with_three _ _ _ vs h
+numbers_back op.Orr vs h = with_three _ _ _ vs h
+numbers_back op.Eor vs h = with_three _ _ _ vs h
+numbers_back op.Mvn vs h = with_two _ _ vs h
+numbers_back op.Lsl vs h = with_three _ _ _ vs h
+numbers_back op.Lsr vs h = with_three _ _ _ vs h
+numbers_back op.Asr vs h = with_three _ _ _ vs h
+numbers_back op.Sxtb vs h = with_two _ _ vs h
+numbers_back op.Sxth vs h = with_two _ _ vs h
+numbers_back op.Uxtb vs h = with_two _ _ vs h
+numbers_back op.Uxth vs h = with_two _ _ vs h
+numbers_back op.Mul vs h = with_three _ _ _ vs h
+numbers_back op.Mls vs h = with_four _ _ _ _ vs h
+numbers_back op.Sdiv vs h = with_three _ _ _ vs h
+numbers_back op.Udiv vs h = with_three _ _ _ vs h
 numbers_back op.Ldr vs h = with_three _ _ _ vs h
+numbers_back op.Ldrb vs h = with_three _ _ _ vs h
+numbers_back op.Ldrh vs h = with_three _ _ _ vs h
+numbers_back op.Ldrsb vs h = with_three _ _ _ vs h
+numbers_back op.Ldrsh vs h = with_three _ _ _ vs h
 numbers_back op.Str vs h = with_three _ _ _ vs h
+numbers_back op.Strb vs h = with_three _ _ _ vs h
+numbers_back op.Strh vs h = with_three _ _ _ vs h
+numbers_back op.Stmdb vs h = with_one _ vs h
+numbers_back op.Ldmia vs h = with_one _ vs h
 numbers_back op.B vs h = with_one _ vs h
+numbers_back op.Bl vs h = with_one _ vs h
+numbers_back op.Bc vs h = with_two _ _ vs h
 numbers_back op.Msr vs h = with_two _ _ vs h
+numbers_back op.Mrs vs h = with_two _ _ vs h
+numbers_back op.Tt vs h = with_two _ _ vs h
+numbers_back op.Ttt vs h = with_two _ _ vs h
+numbers_back op.Tta vs h = with_two _ _ vs h
+numbers_back op.Ttat vs h = with_two _ _ vs h
 
 four_is_wide : (t : Bool) → ◌≡◌ {A = ℕ} (cond t 4 2) 4 → t ≡ true
 four_is_wide true h = refl
 four_is_wide false h = absurd (omega arith)
 
-made_back : (o : Opcode) (a b : ℕ) → b < 2 ^ 16 → Fits (row_of o) (word_by o a b) → IsReadAs a b (instr_of o (numbers_by o a b)) (row_size (row_of o))
-unfolding in_range_of code_of size_of
+made_back : (o : Opcode) (a b : ℕ) → b < 2 ^ 16 → Fits (row_of o) (word_by o a b) → IsRowOf a b (instr_of o (numbers_by o a b)) (row_size (row_of o))
+unfolding taken_of row_code_of row_size_of
 made_back o a b lb f =
     let r = row_of o in
     let i = instr_of o (numbers_by o a b) in
-    let numbers = numbers_back o (numbers_by o a b) f.taken in
+    let numbers = numbers_back o (numbers_by o a b) (each_taken r (numbers_by o a b) f.taken) in
     let code : row_code (row_of (opcode_of (instr_of o (numbers_by o a b)))) (numbers_of (instr_of o (numbers_by o a b))) ≡ row_code (row_of o) (numbers_by o a b) =
     ap (λ q. row_code (row_of q) (numbers_of i)) (opcode_back o (numbers_by o a b)) ∙ ap (row_code r) numbers
     in
@@ -398,47 +582,47 @@ made_back o a b lb f =
     let high : word_by o a b / 2 ^ 16 ≡ a = div-mul-add a (2 ^ 16) (cond (row_of o).wide b 0) low in
     let rest : word_by o a b % 2 ^ 16 ≡ cond (row_of o).wide b 0 = mod-mul-add a (2 ^ 16) (cond (row_of o).wide b 0) low in
     record {
-      in_range = ap (λ q. all_taken (row_of q).fields (numbers_of i)) (opcode_back o (numbers_by o a b)) ∙ ap (all_taken r.fields) numbers ∙ f.taken;
+      in_range = ap (λ q. row_takes (row_of q) (numbers_of i)) (opcode_back o (numbers_by o a b)) ∙ ap (row_takes r) numbers ∙ f.taken;
       has_size = ap (λ (c : Code). c.size) code;
       has_first = ap (λ (c : Code). c.first) code ∙ ap (λ x. x / 2 ^ 16) f.is_word ∙ high;
       has_second = λ s. ap (λ (c : Code). c.second) code ∙ ap (λ x. x % 2 ^ 16) f.is_word ∙ rest ∙ wide_second r.wide b (four_is_wide r.wide s);
     }
 
 -- what halfwords are read as has these halfwords
-pub code_of-decode : (a b : ℕ) (d : Decoded) → b < 2 ^ 16 → decode_of a b ≡ Some d → IsReadAs a b d.instr d.size
+pub code_of-decode : (a b : ℕ) (d : Decoded) → b < 2 ^ 16 → decode_of a b ≡ Some d → IsRowOf a b d.instr d.size
 unfolding decode_of
 code_of-decode a b d lb e =
     let s = first_some opcodes a b d e in
     let t = read_some s.0 a b d s.1 in
-    subst (λ (x : Decoded). IsReadAs a b x.instr x.size) t.1 (made_back s.0 a b lb (fits_parts (row_of s.0) (word_by s.0 a b) t.0))
+    subst (λ (x : Decoded). IsRowOf a b x.instr x.size) t.1 (made_back s.0 a b lb (fits_parts (row_of s.0) (word_by s.0 a b) t.0))
 
 -- sizes, and the halfwords' bounds
 two_or_four : (t : Bool) → ◌≡◌ {A = ℕ} (cond t 4 2) 2 ⊎ ◌≡◌ {A = ℕ} (cond t 4 2) 4
 two_or_four true = inr refl
 two_or_four false = inl refl
 
-pub size_of_cases : (i : Instr) → (size_of i ≡ 2) ⊎ (size_of i ≡ 4)
-unfolding size_of
+pub size_of_cases : (i : Instr) → (row_size_of i ≡ 2) ⊎ (row_size_of i ≡ 4)
+unfolding row_size_of
 size_of_cases i = two_or_four (row_of (opcode_of i)).wide
 
-pub code_of_size : (i : Instr) → (code_of i).size ≡ size_of i
-unfolding code_of size_of
+pub code_of_size : (i : Instr) → (row_code_of i).size ≡ row_size_of i
+unfolding row_code_of row_size_of
 code_of_size i = refl
 
-pub code_of_first : (i : Instr) → (code_of i).first < 2 ^ 16
-unfolding code_of
+pub code_of_first : (i : Instr) → (row_code_of i).first < 2 ^ 16
+unfolding row_code_of
 code_of_first i = let g = good_row (opcode_of i) in let lt = word_of_lt (row_of (opcode_of i)) (numbers_of i) g.base g.in_word in omega arith
 
-pub code_of_second : (i : Instr) → (code_of i).second < 2 ^ 16
-unfolding code_of
+pub code_of_second : (i : Instr) → (row_code_of i).second < 2 ^ 16
+unfolding row_code_of
 code_of_second i = omega arith
 
 two_is_narrow : (t : Bool) → ◌≡◌ {A = ℕ} (cond t 4 2) 2 → t ≡ false
 two_is_narrow true h = absurd (omega arith)
 two_is_narrow false h = refl
 
-pub code_of_narrow : (i : Instr) → size_of i ≡ 2 → (code_of i).second ≡ 0
-unfolding code_of size_of
+pub code_of_narrow : (i : Instr) → row_size_of i ≡ 2 → (row_code_of i).second ≡ 0
+unfolding row_code_of row_size_of
 code_of_narrow i h = low_zero (row_of (opcode_of i)) (number (opcode_of i)) (numbers_of i) (good_row (opcode_of i)) (two_is_narrow (row_of (opcode_of i)).wide h)
 
 -- the top five bits of the first halfword tell the size

@@ -1,12 +1,18 @@
 -- A row of the instruction table: where the bits of its fields stand in the word first:second, and which numbers they take.
-use Rattle.std.specs.Prelude.{ℕ, ◌+◌, ◌-◌, ◌*◌, ◌/◌, ◌%◌, ◌^◌, Bool, true, false, cond, ◌&&◌, ◌||◌, eqb, ltb, leb, List, [], ◌∷◌, bit_or, map, Option, Some, None}
+use Rattle.std.specs.Prelude.{ℕ, ◌+◌, ◌-◌, ◌*◌, ◌/◌, ◌%◌, ◌^◌, Bool, true, false, cond, ◌&&◌, ◌||◌, not, eqb, ltb, leb, List, [], ◌∷◌, bit_or, count_ones, map, Option, Some, None}
 use Rattle.std.specs.List.{list_all}
 use Rattle.v8m_isa.specs.declared.instr.Code.{Code}
 use Rattle.v8m_isa.specs.declared.form.Piece.{Piece}
 use Rattle.v8m_isa.specs.declared.form.Field.{Field}
 use Rattle.v8m_isa.specs.declared.form.Form.{Form}
 use Rattle.v8m_isa.specs.declared.form.Kind.{Kind}
-use Rattle.v8m_isa.specs.declared.form.Kind.TheVariants.{Register, Base, Number, Special, Far}
+use Rattle.v8m_isa.specs.declared.form.Kind.TheVariants as kind
+use Rattle.v8m_isa.specs.declared.form.Rule.{Rule}
+use Rattle.v8m_isa.specs.declared.form.Rule.TheVariants.{Free, SpFromSp}
+use Rattle.v8m_isa.specs.declared.operand.Operand.{Operand}
+use Rattle.v8m_isa.specs.declared.operand.Operand.TheVariants as operand
+use Rattle.v8m_isa.specs.declared.operand.TheConstants as fields
+use Rattle.v8m_isa.specs.Fields.{is_register, is_register_or_sp, is_condition, is_number, is_special, is_list, is_offset, is_sp_from_sp}
 
 -- the bits that a piece has of a field's, put into the word, and got from it
 abbrev pub put : Piece → ℕ → ℕ
@@ -47,26 +53,35 @@ sign_extend n x = cond (ltb x (2 ^ (n - 1))) x (x + (2 ^ 32 - 2 ^ n))
 
 -- which numbers a field of so many bits takes
 unfoldable pub takes : Kind → ℕ → ℕ → Bool
-takes Register n v = ltb v 13 || eqb v 14
-takes Base n v = ltb v 15
-takes Number n v = ltb v (2 ^ n)
-takes Special n v = eqb v 0 || (eqb v 8 || (eqb v 9 || (eqb v 10 || (eqb v 11 || (eqb v 136 || eqb v 137)))))
-takes Far n v = eqb (v % 2) 0 && (ltb v (2 ^ 24) || leb (2 ^ 32 - 2 ^ 24) v && ltb v (2 ^ 32))
+takes kind.Register n v = is_register v
+takes kind.Base n v = is_register_or_sp v
+takes kind.Condition n v = is_condition v
+takes kind.Number n v = is_number n v
+takes kind.Special n v = is_special v
+takes kind.List n v = is_list v
+takes kind.Near n v = is_offset 20 v
+takes kind.Far n v = is_offset 24 v
 
 -- the bits of a number in its field, and the number that bits show there
 unfoldable pub bits_of : Kind → ℕ → ℕ
-bits_of Register v = v
-bits_of Base v = v
-bits_of Number v = v
-bits_of Special v = v
-bits_of Far v = turn (v / 2 % 2 ^ 24)
+bits_of kind.Register v = v
+bits_of kind.Base v = v
+bits_of kind.Condition v = v
+bits_of kind.Number v = v
+bits_of kind.Special v = v
+bits_of kind.List v = v
+bits_of kind.Near v = v / 2 % 2 ^ 20
+bits_of kind.Far v = turn (v / 2 % 2 ^ 24)
 
 unfoldable pub number_of : Kind → ℕ → ℕ
-number_of Register x = x
-number_of Base x = x
-number_of Number x = x
-number_of Special x = x
-number_of Far x = sign_extend 25 (2 * turn (x % 2 ^ 24))
+number_of kind.Register x = x
+number_of kind.Base x = x
+number_of kind.Condition x = x
+number_of kind.Number x = x
+number_of kind.Special x = x
+number_of kind.List x = x
+number_of kind.Near x = sign_extend 21 (2 * (x % 2 ^ 20))
+number_of kind.Far x = sign_extend 25 (2 * turn (x % 2 ^ 24))
 
 abbrev pub field_put : Field → ℕ → ℕ
 field_put f v = put_all f.pieces (bits_of f.kind v)
@@ -94,14 +109,52 @@ all_taken [] (v ∷ vs) = false
 all_taken (f ∷ fs) [] = false
 all_taken (f ∷ fs) (v ∷ vs) = field_takes f v && all_taken fs vs
 
+-- a rule of a row beside those of its fields: ADDW and SUBW write SP only from SP
+unfoldable pub is_kept : Rule → List ℕ → Bool
+is_kept Free vs = true
+is_kept SpFromSp [] = true
+is_kept SpFromSp (d ∷ []) = true
+is_kept SpFromSp (d ∷ (n ∷ vs)) = is_sp_from_sp d n
+
+-- where a field stands, and what it takes
+unfoldable pub field_of : Operand → Field
+field_of operand.Blank = fields.BLANK
+field_of operand.NarrowRd = fields.NARROW_RD
+field_of operand.NarrowRm = fields.NARROW_RM
+field_of operand.NarrowRmOrSp = fields.NARROW_RM_OR_SP
+field_of operand.NarrowImm8 = fields.NARROW_IMM8
+field_of operand.Rd = fields.RD
+field_of operand.RdOrSp = fields.RD_OR_SP
+field_of operand.Rn = fields.RN
+field_of operand.RnOrSp = fields.RN_OR_SP
+field_of operand.Rm = fields.RM
+field_of operand.Ra = fields.RA
+field_of operand.Rt = fields.RT
+field_of operand.Imm12 = fields.IMM12
+field_of operand.SplitImm12 = fields.SPLIT_IMM12
+field_of operand.Imm16 = fields.IMM16
+field_of operand.List = fields.LIST
+field_of operand.Far = fields.FAR
+field_of operand.Near = fields.NEAR
+field_of operand.Condition = fields.CONDITION
+field_of operand.Special = fields.SPECIAL
+
+abbrev pub fields_of : List Operand → List Field
+fields_of os = map field_of os
+
 -- a row, without the number of its fields in its type
 pub record Row : Type 0 where
   pub wide : Bool
   pub base : ℕ
   pub fields : List Field
+  pub rule : Rule
 
 abbrev pub row : {N : ℕ} → Form N → Row
-row f = record { wide = f.wide; base = f.base; fields = f.fields }
+row f = record { wide = f.wide; base = f.base; fields = fields_of f.operands; rule = f.rule }
+
+-- whether these are numbers of an instruction of the row
+abbrev pub row_takes : Row → List ℕ → Bool
+row_takes r vs = all_taken r.fields vs && is_kept r.rule vs
 
 -- the word first:second of these numbers
 unfoldable pub word_of : Row → List ℕ → ℕ
@@ -119,7 +172,7 @@ word_in r first second = first * 2 ^ 16 + cond r.wide second 0
 
 -- a word is of a row where the row takes the numbers that the word has there, and the word is theirs
 abbrev pub fits : Row → ℕ → Bool
-fits r w = all_taken r.fields (fields_got r.fields w) && eqb (word_of r (fields_got r.fields w)) w
+fits r w = row_takes r (fields_got r.fields w) && eqb (word_of r (fields_got r.fields w)) w
 
 abbrev pub numbers_in : Row → ℕ → ℕ → Option (List ℕ)
 numbers_in r first second = cond (fits r (word_in r first second)) (Some (fields_got r.fields (word_in r first second))) None

@@ -1,3 +1,4 @@
 pub mod Choice
+pub mod Fields
 pub mod Form
 pub mod Table

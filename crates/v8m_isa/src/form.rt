@@ -2,9 +2,10 @@
 //! take.
 
 ghost use Rattle.std.specs.Prelude.{◌≡◌, ◌+◌, ◌-◌, ◌*◌, ◌/◌, ◌%◌, ◌^◌, ◌<◌, ◌≤◌, IsTrue};
-ghost use Rattle.v8m_isa.specs.Form.{put, got, is_in_word, put_all, got_all, turn, sign_extend, takes, bits_of, number_of, field_put, field_got, field_takes, are_in_word, all_in_word, row, word_of, fields_got, all_taken, row_size, row_code, numbers_in};
+ghost use Rattle.v8m_isa.specs.Form.{put, got, is_in_word, put_all, got_all, turn, sign_extend, takes, bits_of, number_of, field_put, field_got, field_takes, are_in_word, fields_of, is_kept, row, word_of, fields_got, all_taken, row_takes, row_size, row_code, numbers_in};
 
 use crate::instr::Code;
+use crate::operand::Operand;
 
 /// Which numbers a field takes, and how its bits show them.
 #[derive(Clone, Copy, PartialEq, Eq)]
@@ -13,10 +14,16 @@ pub enum Kind {
     Register,
     /// A register of 0 to 14.
     Base,
+    /// A condition of 0 to 13.
+    Condition,
     /// Each number that the field's bits hold.
     Number,
     /// The number of a special register that MRS and MSR name.
     Special,
+    /// Two at least of the registers 0 to 12 and 14, as bits.
+    List,
+    /// A branch's offset of 21 bits with a sign. Its lowest bit is 0 and has no place.
+    Near,
     /// A branch's offset of 25 bits with a sign. Its lowest bit is 0 and has no place, and the two below the highest
     /// are turned by the highest.
     Far,
@@ -32,8 +39,11 @@ impl Kind {
         match self {
             Kind::Register => number < 13 || number == 14,
             Kind::Base => number < 15,
+            Kind::Condition => number < 14,
             Kind::Number => number < 1 << wide,
             Kind::Special => matches!(number, 0 | 8 | 9 | 10 | 11 | 136 | 137),
+            Kind::List => number < 0x8000 && number / 0x2000 % 2 == 0 && 2 <= number.count_ones(),
+            Kind::Near => number % 2 == 0 && (number < 0x10_0000 || 0xFFF0_0000 <= number),
             Kind::Far => number % 2 == 0 && (number < 0x100_0000 || 0xFF00_0000 <= number),
         }
     }
@@ -44,7 +54,13 @@ impl Kind {
         ensures { result ≡ bits_of self number }
     {
         match self {
-            Kind::Register | Kind::Base | Kind::Number | Kind::Special => number,
+            Kind::Register
+            | Kind::Base
+            | Kind::Condition
+            | Kind::Number
+            | Kind::Special
+            | Kind::List => number,
+            Kind::Near => number / 2 % 0x10_0000,
             Kind::Far => turned(number / 2 % 0x100_0000),
         }
     }
@@ -55,8 +71,14 @@ impl Kind {
         ensures { result ≡ number_of self bits }
     {
         match self {
-            Kind::Register | Kind::Base | Kind::Number | Kind::Special => bits,
-            Kind::Far => extended(2 * turned(bits % 0x100_0000)),
+            Kind::Register
+            | Kind::Base
+            | Kind::Condition
+            | Kind::Number
+            | Kind::Special
+            | Kind::List => bits,
+            Kind::Near => near_extended(2 * (bits % 0x10_0000)),
+            Kind::Far => far_extended(2 * turned(bits % 0x100_0000)),
         }
     }
 }
@@ -74,8 +96,20 @@ fn turned(bits: u32) -> u32
     sign * 0x80_0000 + second * 0x40_0000 + third * 0x20_0000 + bits % 0x20_0000
 }
 
+// 21 bits with a sign, as a number modulo 2^32.
+fn near_extended(bits: u32) -> u32
+    requires { bits < 2 ^ 21 }
+    ensures { result ≡ sign_extend 21 bits }
+{
+    if bits < 0x10_0000 {
+        bits
+    } else {
+        bits + 0xFFE0_0000
+    }
+}
+
 // 25 bits with a sign, as a number modulo 2^32.
-fn extended(bits: u32) -> u32
+fn far_extended(bits: u32) -> u32
     requires { bits < 2 ^ 25 }
     ensures { result ≡ sign_extend 25 bits }
 {
@@ -156,6 +190,30 @@ impl Field {
     }
 }
 
+/// A rule of a row beside those of its fields.
+#[derive(Clone, Copy, PartialEq, Eq)]
+pub enum Rule {
+    /// None.
+    Free,
+    /// The first register is 13 only where the second one is.
+    SpFromSp,
+}
+
+impl Rule {
+    // Whether a row's numbers keep the rule.
+    fn is_kept(self, numbers: &[u32]) -> bool
+        ensures { result ≡ is_kept self numbers.now }
+    {
+        match self {
+            Rule::Free => true,
+            Rule::SpFromSp => match numbers {
+                [first, second, ..] => *first != 13 || *second == 13,
+                _ => true,
+            },
+        }
+    }
+}
+
 /// A row of the instruction table: the bits that are fixed, and the fields in the order of the instruction's.
 #[derive(Clone, Copy)]
 pub struct Form<const N: usize> {
@@ -163,19 +221,19 @@ pub struct Form<const N: usize> {
     pub wide: bool,
     /// The word first:second of the fixed bits, with 0 in the fields and, in a row of one halfword, below bit 16.
     pub base: u32,
-    pub fields: [Field; N],
+    pub operands: [Operand; N],
+    pub rule: Rule,
 }
 
 impl<const N: usize> Form<N> {
     // The word of these numbers.
     fn word(&self, numbers: &[u32; N]) -> u32
         requires few { N ≤ 8 }
-        requires in_word { IsTrue (all_in_word self.now.fields) }
         ensures { result ≡ word_of (row self.now) numbers.now }
     {
         let mut word = self.base;
         for k in 0..N {
-            word |= self.fields[k].put(numbers[k]);
+            word |= self.operands[k].field().put(numbers[k]);
         }
         word
     }
@@ -183,28 +241,34 @@ impl<const N: usize> Form<N> {
     // The numbers that a word has in the fields.
     fn numbers(&self, word: u32) -> [u32; N]
         requires few { N ≤ 8 }
-        requires in_word { IsTrue (all_in_word self.now.fields) }
-        ensures { result ≡ fields_got self.now.fields word }
+        ensures { result ≡ fields_got (fields_of self.now.operands) word }
     {
         let mut numbers = [0; N];
         for k in 0..N {
-            numbers[k] = self.fields[k].got(word);
+            numbers[k] = self.operands[k].field().got(word);
         }
         numbers
     }
 
-    /// Whether each number is one that its field takes.
-    pub fn takes(&self, numbers: &[u32; N]) -> bool
+    // Whether each number is one that its field takes.
+    fn each_taken(&self, numbers: &[u32; N]) -> bool
         requires few { N ≤ 8 }
-        requires in_word { IsTrue (all_in_word self.now.fields) }
-        ensures { result ≡ all_taken self.now.fields numbers.now }
+        ensures { result ≡ all_taken (fields_of self.now.operands) numbers.now }
     {
         for k in 0..N {
-            if !self.fields[k].takes(numbers[k]) {
+            if !self.operands[k].field().takes(numbers[k]) {
                 return false;
             }
         }
         true
+    }
+
+    /// Whether these are numbers of an instruction of the row.
+    pub fn takes(&self, numbers: &[u32; N]) -> bool
+        requires few { N ≤ 8 }
+        ensures { result ≡ row_takes (row self.now) numbers.now }
+    {
+        self.each_taken(numbers) && self.rule.is_kept(numbers)
     }
 
     /// The size of the row's instructions in bytes.
@@ -217,7 +281,6 @@ impl<const N: usize> Form<N> {
     /// The halfwords of the row's instruction with these numbers.
     pub fn code(&self, numbers: &[u32; N]) -> Code
         requires few { N ≤ 8 }
-        requires in_word { IsTrue (all_in_word self.now.fields) }
         ensures { result ≡ row_code (row self.now) numbers.now }
     {
         let word = self.word(numbers);
@@ -231,7 +294,6 @@ impl<const N: usize> Form<N> {
     /// The numbers of the row's instruction in these halfwords, or None where they are none of this row.
     pub fn read(&self, first: u16, second: u16) -> Option<[u32; N]>
         requires few { N ≤ 8 }
-        requires in_word { IsTrue (all_in_word self.now.fields) }
         ensures { result ≡ numbers_in (row self.now) first second }
     {
         let low = if self.wide { u32::from(second) } else { 0 };

@@ -5,6 +5,7 @@
 mod codec;
 mod form;
 mod instr;
+mod operand;
 mod table;
 #[cfg(test)]
 mod tests;

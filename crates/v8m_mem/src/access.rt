@@ -3,6 +3,7 @@
 ghost use Rattle.std.specs.Prelude.{◌≡◌, ◌≤◌, IsTrue};
 ghost use Rattle.ns_types.specs.Platform.{in_row, is_in_rom, is_nonsecure, is_readable, is_secure, is_writable, region_of};
 ghost use Rattle.v8m_mem.specs.Rows.{is_size};
+ghost use Rattle.v8m_mem.specs.Target.{flag, target_of};
 
 /// Whether one region holds all `size` bytes at an address, so that Secure code may read them.
 #[tactic(auto, unfolding(ns_types::specs::Platform::is_readable))]
@@ -84,4 +85,33 @@ pub fn is_nonsecure(at: u32) -> bool
     ensures { result ≡ is_nonsecure at }
 {
     at < 0x0004_0000 || is_in_ns_ram(at)
+}
+
+/// A field of one bit, by its weight.
+fn flag(is_set: bool, weight: u32) -> u32
+    ensures { result ≡ flag is_set weight }
+{
+    if is_set { weight } else { 0 }
+}
+
+/// What TT answers for an address.
+#[tactic(auto, unfolding(crate::specs::Target::target_of, ns_types::specs::Platform::region_of))]
+pub fn target(at: u32) -> u32
+    ensures { result ≡ target_of at }
+{
+    let secure = is_secure(at);
+    let readable = can_read(at, 1);
+    let writable = can_write(at, 1);
+    match region_at(at) {
+        Some(region) => {
+            0x100_0000 * region as u32
+                + 0x80_0000
+                + flag(secure, 0x40_0000)
+                + flag(writable && !secure, 0x20_0000)
+                + flag(readable && !secure, 0x10_0000)
+                + flag(writable, 0x8_0000)
+                + flag(readable, 0x4_0000)
+        }
+        None => 0,
+    }
 }

@@ -3,9 +3,10 @@ ghost use Rattle.std.specs.Bool.{OnFalse};
 ghost use Rattle.cm_base.specs.declared.regions.TheConstants.{PLATFORM};
 ghost use Rattle.ns_types.specs.Platform.{in_row, is_in_rom, is_readable, is_writable, region_of, row};
 ghost use Rattle.ns_types.specs.Memory.{half_at, load, read_of, store, write_of};
-ghost use Rattle.v8m_mem.specs.Rows.{IsStart, is_size, memory_of};
+ghost use Rattle.v8m_mem.specs.Rows.{AreWhole, IsStart, is_size, memory_of};
+ghost use Rattle.v8m_mem.specs.Target.{target_of};
 
-use crate::access::{can_read, can_write, region_at};
+use crate::access::{can_read, can_write, region_at, target};
 use crate::bytes::{get_number, set_number};
 use cm_base::{NoMemory, Regions};
 use ns_types::Start;
@@ -88,6 +89,20 @@ impl Memory {
         ensures { result ≡ region_of at }
     {
         region_at(at)
+    }
+
+    /// Does nothing, and says to its caller that each region has its length.
+    pub fn each_is_whole(&self)
+        ensures { AreWhole self.now }
+    {
+        let _ = &self.rom;
+    }
+
+    /// What TT answers for an address (DDI0553, TT_RESP).
+    pub fn tt(&self, at: u32) -> u32
+        ensures { result ≡ target_of at }
+    {
+        target(at)
     }
 
     /// Non-secure RAM.

@@ -13,4 +13,4 @@ returns-clause-back c =
 pub returns-clause-narrow : goal.returns-clause-narrow
 returns-clause-narrow c =
     let i = c.args.i.now in
-    λ e. ap (λ (r : Code). r.second) c.code.ensures ∙ second-code_of_narrow i (sym (size-code_of i) ∙ ap (λ (r : Code). r.size) (sym c.code.ensures) ∙ e)
+    λ e. ap (λ (r : Code). r.second) c.code.ensures ∙ second-code_of_narrow i c.requires (sym (size-code_of i) ∙ ap (λ (r : Code). r.size) (sym c.code.ensures) ∙ e)

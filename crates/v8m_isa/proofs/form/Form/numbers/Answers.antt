@@ -7,5 +7,5 @@ pub loop-k-preserved : goal.loop-k-preserved
 loop-k-preserved g c =
     record {
       all = length-set c.loop-k.numbers c.loop-k.k c.got.result ∙ c.loop-k.invariant.all;
-      done = fields_got_more c.args.self.now.fields c.loop-k.numbers c.args.word c.loop-k.k c.got.result _ (omega arith) c.loop-k.invariant.all c.got.ensures c.loop-k.invariant.done;
+      done = fields_got_more c.args.self.now.operands c.loop-k.numbers c.args.word c.loop-k.k c.got.result c.field.result _ (omega arith) c.loop-k.invariant.all c.field.ensures.is c.got.ensures c.loop-k.invariant.done;
     }

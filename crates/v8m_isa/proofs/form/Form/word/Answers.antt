@@ -9,8 +9,8 @@ loop-k-init g c = refl
 
 pub loop-k-preserved : goal.loop-k-preserved
 loop-k-preserved g c =
-    fields_put_more c.args.self.now.fields c.args.numbers.now c.loop-k.k c.loop-k.word c.put-word.result _ _ (omega arith) (omega arith) c.put-word.ensures
+    fields_put_more c.args.self.now.operands c.args.numbers.now c.loop-k.k c.loop-k.word c.put-word.result c.field.result _ _ (omega arith) (omega arith) c.field.ensures.is c.put-word.ensures
     ∙ c.loop-k.invariant
 
 pub returns : goal.returns
-returns g c = sym (fields_put_end c.args.self.now.fields c.args.numbers.now c.loop-k.k c.loop-k.word (omega arith)) ∙ c.loop-k.invariant
+returns g c = sym (fields_put_end c.args.self.now.operands c.args.numbers.now c.loop-k.k c.loop-k.word (omega arith)) ∙ c.loop-k.invariant
