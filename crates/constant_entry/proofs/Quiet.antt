@@ -206,13 +206,21 @@ module _ (rom : List ℕ) (n : ℕ) (h : GivesConstant rom n) where
         (all_straight rom (suc m) ts (entry_front n) u3 t2 refl (has_front rom entry_place (entry_front n) (Bxns 14 ∷ []) h.entry) (answer_does rom n u3) (plain_entry n)
         (λ side. by_bxns v (aligned_even s.cpu.regs.lr) t2 (record { sp = q.sp; seal = q.seal }) last.0 side refl))
 
-  waiting_tells : (m : ℕ) (ts : List Turn) (s : State) → AtRest s → s.cpu.side ≡ NonSecure → AllTell rom m ts s
-  entry_tells : (m : ℕ) (ts : List Turn) (s : State) → AtRest s → AllTell rom m ts (entered first_veneer s)
-  waiting_tells zero ts s q side = all_none rom ts s
-  waiting_tells (suc m) [] s q side = all_waits rom (suc m) s side
-  waiting_tells (suc m) (t ∷ ts) s q side = all_turn rom m t ts s side (by_turn m ts (waiting_tells m ts) (entry_tells m ts) t s q)
-  entry_tells zero ts s q = all_none rom ts (entered first_veneer s)
-  entry_tells (suc m) ts s q = fewer rom (suc m) (suc (7 + suc m)) ts (entered first_veneer s) (omega arith) (by_entry m ts (waiting_tells m ts) (entry_tells m ts) s q)
+  -- waiting for a turn, and in the entry
+  abbrev BothTell : ℕ → Type 0
+  BothTell m = ((ts : List Turn) (s : State) → AtRest s → s.cpu.side ≡ NonSecure → AllTell rom m ts s) × ((ts : List Turn) (s : State) → AtRest s → AllTell rom m ts (entered first_veneer s))
+
+  next_turn : (m : ℕ) → BothTell m → (ts : List Turn) (s : State) → AtRest s → s.cpu.side ≡ NonSecure → AllTell rom (suc m) ts s
+  next_turn m r [] s q side = all_waits rom (suc m) s side
+  next_turn m r (t ∷ ts) s q side = all_turn rom m t ts s side (by_turn m ts (r.0 ts) (r.1 ts) t s q)
+
+  both_tell : (m : ℕ) → BothTell m
+  both_tell zero = ((λ ts s q side. all_none rom ts s), (λ ts s q. all_none rom ts (entered first_veneer s)))
+  both_tell (suc m) =
+      let r = both_tell m in (
+        next_turn m r,
+        λ ts s q. fewer rom (suc m) (suc (7 + suc m)) ts (entered first_veneer s) (omega arith) (by_entry m ts (r.0 ts) (r.1 ts) s q),
+      )
 
   -- from reset
   pub all_tell : (start : Start) → IsStart start → (ts : List Turn) (k : ℕ) → AllTell rom k ts (reset_of rom start)
@@ -230,7 +238,7 @@ module _ (rom : List ℕ) (n : ℕ) (h : GivesConstant rom n) where
       fewer rom k (22 + (19 + suc k)) ts s (omega arith)
       (all_straight rom (19 + suc k) ts stacks_code s (sealed s) refl seal (seal_does rom s) plain_stacks
       (λ a. all_straight rom (suc k) ts hand_code (sealed s) t1 a hand (hand_does rom (sealed s)) plain_hand
-      (λ b. by_bxns k ts (waiting_tells k ts) (entry_tells k ts) (reset_address start) (aligned_even (word_at start.ns_rom 4)) t1 q last.0 b (start_lr start s refl))))
+      (λ b. by_bxns k ts ((both_tell k).0 ts) ((both_tell k).1 ts) (reset_address start) (aligned_even (word_at start.ns_rom 4)) t1 q last.0 b (start_lr start s refl))))
 
 -- the entry stands in Secure memory
 entry_secure : AreSecure enters_first
