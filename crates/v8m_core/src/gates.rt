@@ -271,10 +271,9 @@ fn call_nonsecure(memory: &mut Memory, cpu: &mut Cpu, v: u32, back: u32) -> Step
         }
         Goes::Turn => {
             call(memory, cpu, back);
-            let view = seen(cpu, v);
             cpu.side = Side::NonSecure;
             cpu.pc = v;
-            Stepped::Given(view)
+            Stepped::Given(seen(cpu, v))
         }
     }
 }

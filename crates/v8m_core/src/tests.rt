@@ -209,3 +209,184 @@ fn stops(rt: HostRuntime) -> Result<(), Fail> {
     }
     Ok(())
 }
+
+#[test]
+fn values(rt: HostRuntime) -> Result<(), Fail> {
+    // movw r0, #0; movt r0, #0x2000; movw r1, #0x8480; strh r1, [r0]; ldrsb r2, [r0]; ldrsh r3, [r0];
+    // ldrb r4, [r0, #1]; movw r5, #0; movt r5, #0x8000; mvn r6, r5; orr r6, r6, r5; sdiv r7, r5, r6; movw r8, #0;
+    // sdiv r8, r5, r8; movw r9, #0x128; asr r10, r5, r9; movw r9, #32; lsl r11, r6, r9; lsr r12, r5, r9;
+    // cmp r5, r1; mrs r1, apsr; bxns r0
+    let code = [
+        0xF240, 0x0000, 0xF2C2, 0x0000, 0xF248, 0x4180, 0xF8A0, 0x1000, 0xF990, 0x2000, 0xF9B0,
+        0x3000, 0xF890, 0x4001, 0xF240, 0x0500, 0xF2C8, 0x0500, 0xEA6F, 0x0605, 0xEA46, 0x0605,
+        0xFB95, 0xF7F6, 0xF240, 0x0800, 0xFB95, 0xF8F8, 0xF240, 0x1928, 0xFA45, 0xFA09, 0xF240,
+        0x0920, 0xFA06, 0xFB09, 0xFA25, 0xFC09, 0xEBB5, 0x0F01, 0xF3EF, 0x8100, 0x4704,
+    ];
+    let mut m = machine(rt.alloc(), &code, &[])?;
+    let t = turn(rt.alloc(), &[], 0)?;
+    let wrote = Stepped::Wrote {
+        at: 0x2000_0000,
+        size: 2,
+        value: 0x8480,
+    };
+    let given = Stepped::Given(View {
+        r: [
+            0x2000_0000,
+            0x3000_0000,
+            0xFFFF_FF80,
+            0xFFFF_8480,
+            0x84,
+            0x8000_0000,
+            0xFFFF_FFFF,
+            0x8000_0000,
+            0,
+            32,
+            0xFFFF_FFFF,
+            0,
+            0,
+        ],
+        lr: 0xFFFF_FFFF,
+        pc: 0x2000_0000,
+        nzcvq: 6,
+        msp_ns: 0,
+        psp_ns: 0,
+    });
+    let list = shown(rt.alloc(), &mut m, &t, 22)?;
+    assert_eq!(rt; list.as_slice(), [wrote, given].as_slice());
+    Ok(())
+}
+
+#[test]
+fn lists_and_calls(rt: HostRuntime) -> Result<(), Fail> {
+    // movw r1, #0x1111; movw r2, #0x2222; push {r1, r2, lr}; mrs r3, msp; pop {r4, r5}; addw sp, sp, #4;
+    // movw r0, #0xF000; movt r0, #0x103F; tt r6, r0; movw r7, #0; movt r7, #0x2000; ttat r7, r7; cmp r1, r2;
+    // bcs to the beginning; bl over the next halfword; udf #1; movw r12, #0x300; blxns r12; subw r8, sp, #8;
+    // ldr r9, [r8]; ldr r10, [r8, #4]; mrs r11, msp; bxns r1
+    let code = [
+        0xF241, 0x1111, 0xF242, 0x2222, 0xE92D, 0x4006, 0xF3EF, 0x8308, 0xE8BD, 0x0030, 0xF20D,
+        0x0D04, 0xF24F, 0x0000, 0xF2C1, 0x003F, 0xE840, 0xF600, 0xF240, 0x0700, 0xF2C2, 0x0700,
+        0xE847, 0xF7C0, 0xEBB1, 0x0F02, 0xF4BF, 0xAFE4, 0xF000, 0xF801, 0xDE01, 0xF240, 0x3C00,
+        0x47E4, 0xF2AD, 0x0808, 0xF8D8, 0x9000, 0xF8D8, 0xA004, 0xF3EF, 0x8B08, 0x470C,
+    ];
+    let mut m = machine(rt.alloc(), &code, &[])?;
+    let t = turn(rt.alloc(), &[], 0xFEFF_FFFE)?;
+    // the call, whose caller comes back by the function return address, and what the call pushed
+    let all = [
+        Stepped::Given(View {
+            r: [
+                0x103F_F000,
+                0x1111,
+                0x2222,
+                0x3001_7FEC,
+                0x1111,
+                0x2222,
+                0x03C4_0000,
+                0x01BC_0000,
+                0,
+                0,
+                0,
+                0,
+                0x300,
+            ],
+            lr: 0xFEFF_FFFF,
+            pc: 0x300,
+            nzcvq: 16,
+            msp_ns: 0,
+            psp_ns: 0,
+        }),
+        Stepped::Given(View {
+            r: [
+                1,
+                2,
+                3,
+                4,
+                5,
+                6,
+                7,
+                8,
+                0x3001_7FF0,
+                0x1000_0145,
+                0,
+                0x3001_7FF8,
+                13,
+            ],
+            lr: 0x2000_0001,
+            pc: 2,
+            nzcvq: 5,
+            msp_ns: 0x2000_0400,
+            psp_ns: 0x2000_0800,
+        }),
+    ];
+    let list = shown(rt.alloc(), &mut m, &t, 23)?;
+    assert_eq!(rt; list.as_slice(), all.as_slice());
+    Ok(())
+}
+
+/// What the last of the next steps is, but for those that only go on.
+fn last(alloc: Global, code: &[u16]) -> Result<Option<Stepped>, NoMemory> {
+    let mut m = machine(alloc, code, &[])?;
+    let t = turn(alloc, &[], 0)?;
+    let list = shown(alloc, &mut m, &t, 6)?;
+    Ok(list.as_slice().last().copied())
+}
+
+#[test]
+fn stacks_and_branches(rt: HostRuntime) -> Result<(), Fail> {
+    // movw r0, #4; movt r0, #0x3000; msr msp, r0; push {r0, r1}: the second word would stand below the region
+    let code = [
+        0xF240, 0x0004, 0xF2C3, 0x0000, 0xF380, 0x8808, 0xE92D, 0x0003,
+    ];
+    assert_eq!(rt;
+        last(rt.alloc(), &code)?,
+        Some(Stepped::Stopped(Stop::Unmapped))
+    );
+    // movw r0, #0x9FFC; movt r0, #0x3001; msr msp, r0; pop {r0, r1}: the second word would stand above it
+    let code = [
+        0xF649, 0x70FC, 0xF2C3, 0x0001, 0xF380, 0x8808, 0xE8BD, 0x0003,
+    ];
+    assert_eq!(rt;
+        last(rt.alloc(), &code)?,
+        Some(Stepped::Stopped(Stop::Unmapped))
+    );
+    // movw r0, #0x7FF0; movt r0, #0x3001; msr msplim, r0; subw sp, sp, #8 to the limit; udf #1
+    let code = [
+        0xF647, 0x70F0, 0xF2C3, 0x0001, 0xF380, 0x880A, 0xF2AD, 0x0D08, 0xDE01,
+    ];
+    assert_eq!(rt;
+        last(rt.alloc(), &code)?,
+        Some(Stepped::Stopped(Stop::Divide))
+    );
+    // the same, and below the limit
+    let code = [
+        0xF647, 0x70F0, 0xF2C3, 0x0001, 0xF380, 0x880A, 0xF2AD, 0x0D0C, 0xDE01,
+    ];
+    assert_eq!(rt;
+        last(rt.alloc(), &code)?,
+        Some(Stepped::Stopped(Stop::StackLimit))
+    );
+    // movw r0, #0x200; movt r0, #0x1000; bx r0: bit 0 is clear
+    let code = [0xF240, 0x2000, 0xF2C1, 0x0000, 0x4700];
+    assert_eq!(rt;
+        last(rt.alloc(), &code)?,
+        Some(Stepped::Stopped(Stop::BadState))
+    );
+    // movw r0, #0x201; movt r0, #0x1000; bx r0: to UDF 2
+    let code = [0xF240, 0x2001, 0xF2C1, 0x0000, 0x4700];
+    assert_eq!(rt;
+        last(rt.alloc(), &code)?,
+        Some(Stepped::Stopped(Stop::Outside))
+    );
+    // subw sp, sp, #4; blxns r0: SP is no multiple of 8
+    let code = [0xF2AD, 0x0D04, 0x4784];
+    assert_eq!(rt;
+        last(rt.alloc(), &code)?,
+        Some(Stepped::Stopped(Stop::BadState))
+    );
+    // movw r0, #0xFFFE; movt r0, #0xFEFF; blxns r0, which returns at once; udf #3
+    let code = [0xF64F, 0x70FE, 0xF6CF, 0x60FF, 0x4784, 0xDE03];
+    assert_eq!(rt;
+        last(rt.alloc(), &code)?,
+        Some(Stepped::Stopped(Stop::Misaligned))
+    );
+    Ok(())
+}

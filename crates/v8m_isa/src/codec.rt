@@ -198,12 +198,24 @@ fn shift_row(first: u16, second: u16) -> Option<Opcode>
     ensures { result ≡ chosen shift_choices first second }
 {
     match bits(first, 4, 7) {
-        0x20 => Some(if bits(second, 7, 1) == 1 { Opcode::Sxth } else { Opcode::Lsl }),
+        0x20 => Some(if bits(second, 7, 1) == 1 {
+            Opcode::Sxth
+        } else {
+            Opcode::Lsl
+        }),
         0x21 => Some(Opcode::Uxth),
         0x22 => Some(Opcode::Lsr),
-        0x24 => Some(if bits(second, 7, 1) == 1 { Opcode::Sxtb } else { Opcode::Asr }),
+        0x24 => Some(if bits(second, 7, 1) == 1 {
+            Opcode::Sxtb
+        } else {
+            Opcode::Asr
+        }),
         0x25 => Some(Opcode::Uxtb),
-        0x30 => Some(if bits(second, 4, 1) == 1 { Opcode::Mls } else { Opcode::Mul }),
+        0x30 => Some(if bits(second, 4, 1) == 1 {
+            Opcode::Mls
+        } else {
+            Opcode::Mul
+        }),
         0x39 => Some(Opcode::Sdiv),
         0x3B => Some(Opcode::Udiv),
         _ => None,

@@ -71,24 +71,43 @@ pub enum Operand {
 }
 
 pub const BLANK: Field = field!(Number);
+
 pub const NARROW_RD: Field = narrow_field!(Register 7:7 2:0);
+
 pub const NARROW_RM: Field = narrow_field!(Register 6:3);
+
 pub const NARROW_RM_OR_SP: Field = narrow_field!(Base 6:3);
+
 pub const NARROW_IMM8: Field = narrow_field!(Number 7:0);
+
 pub const RD: Field = field!(Register 11:8);
+
 pub const RD_OR_SP: Field = field!(Base 11:8);
+
 pub const RN: Field = field!(Register 19:16);
+
 pub const RN_OR_SP: Field = field!(Base 19:16);
+
 pub const RM: Field = field!(Register 3:0);
+
 pub const RA: Field = field!(Register 15:12);
+
 pub const RT: Field = field!(Register 15:12);
+
 pub const IMM12: Field = field!(Number 11:0);
+
 pub const SPLIT_IMM12: Field = field!(Number 26:26 14:12 7:0);
+
 pub const IMM16: Field = field!(Number 19:16 26:26 14:12 7:0);
+
 pub const LIST: Field = field!(List 15:0);
+
 pub const FAR: Field = field!(Far 26:26 13:13 11:11 25:16 10:0);
+
 pub const NEAR: Field = field!(Near 26:26 11:11 13:13 21:16 10:0);
+
 pub const CONDITION: Field = field!(Condition 25:22);
+
 pub const SPECIAL: Field = field!(Special 7:0);
 
 impl Operand {

@@ -30,54 +30,103 @@ macro_rules! operands {
 }
 
 pub const NOP: Form<4> = form!(0xBF00);
+
 pub const MOV: Form<4> = form!(0x4600 NarrowRd NarrowRmOrSp);
+
 pub const BX: Form<4> = form!(0x4700 NarrowRm);
+
 pub const BXNS: Form<4> = form!(0x4704 NarrowRm);
+
 pub const BLXNS: Form<4> = form!(0x4784 NarrowRm);
+
 pub const UDF: Form<4> = form!(0xDE00 NarrowImm8);
+
 pub const SG: Form<4> = form!(0xE97F 0xE97F);
+
 pub const MOVW: Form<4> = form!(0xF240 0x0000 Rd Imm16);
+
 pub const MOVT: Form<4> = form!(0xF2C0 0x0000 Rd Imm16);
+
 pub const ADDW: Form<4> = form!(0xF200 0x0000 RdOrSp RnOrSp SplitImm12, SpFromSp);
+
 pub const SUBW: Form<4> = form!(0xF2A0 0x0000 RdOrSp RnOrSp SplitImm12, SpFromSp);
+
 pub const ADD: Form<4> = form!(0xEB00 0x0000 Rd Rn Rm);
+
 pub const SUB: Form<4> = form!(0xEBA0 0x0000 Rd Rn Rm);
+
 pub const RSB: Form<4> = form!(0xEBC0 0x0000 Rd Rn Rm);
+
 pub const CMP: Form<4> = form!(0xEBB0 0x0F00 Rn Rm);
+
 pub const AND: Form<4> = form!(0xEA00 0x0000 Rd Rn Rm);
+
 pub const BIC: Form<4> = form!(0xEA20 0x0000 Rd Rn Rm);
+
 pub const ORR: Form<4> = form!(0xEA40 0x0000 Rd Rn Rm);
+
 pub const EOR: Form<4> = form!(0xEA80 0x0000 Rd Rn Rm);
+
 pub const MVN: Form<4> = form!(0xEA6F 0x0000 Rd Rm);
+
 pub const LSL: Form<4> = form!(0xFA00 0xF000 Rd Rn Rm);
+
 pub const LSR: Form<4> = form!(0xFA20 0xF000 Rd Rn Rm);
+
 pub const ASR: Form<4> = form!(0xFA40 0xF000 Rd Rn Rm);
+
 pub const SXTB: Form<4> = form!(0xFA4F 0xF080 Rd Rm);
+
 pub const SXTH: Form<4> = form!(0xFA0F 0xF080 Rd Rm);
+
 pub const UXTB: Form<4> = form!(0xFA5F 0xF080 Rd Rm);
+
 pub const UXTH: Form<4> = form!(0xFA1F 0xF080 Rd Rm);
+
 pub const MUL: Form<4> = form!(0xFB00 0xF000 Rd Rn Rm);
+
 pub const MLS: Form<4> = form!(0xFB00 0x0010 Rd Rn Rm Ra);
+
 pub const SDIV: Form<4> = form!(0xFB90 0xF0F0 Rd Rn Rm);
+
 pub const UDIV: Form<4> = form!(0xFBB0 0xF0F0 Rd Rn Rm);
+
 pub const LDR: Form<4> = form!(0xF8D0 0x0000 Rt RnOrSp Imm12);
+
 pub const LDRB: Form<4> = form!(0xF890 0x0000 Rt RnOrSp Imm12);
+
 pub const LDRH: Form<4> = form!(0xF8B0 0x0000 Rt RnOrSp Imm12);
+
 pub const LDRSB: Form<4> = form!(0xF990 0x0000 Rt RnOrSp Imm12);
+
 pub const LDRSH: Form<4> = form!(0xF9B0 0x0000 Rt RnOrSp Imm12);
+
 pub const STR: Form<4> = form!(0xF8C0 0x0000 Rt RnOrSp Imm12);
+
 pub const STRB: Form<4> = form!(0xF880 0x0000 Rt RnOrSp Imm12);
+
 pub const STRH: Form<4> = form!(0xF8A0 0x0000 Rt RnOrSp Imm12);
+
 pub const STMDB: Form<4> = form!(0xE92D 0x0000 List);
+
 pub const LDMIA: Form<4> = form!(0xE8BD 0x0000 List);
+
 pub const B: Form<4> = form!(0xF000 0x9000 Far);
+
 pub const BL: Form<4> = form!(0xF000 0xD000 Far);
+
 pub const BC: Form<4> = form!(0xF000 0x8000 Condition Near);
+
 pub const MSR: Form<4> = form!(0xF380 0x8800 Special Rn);
+
 pub const MRS: Form<4> = form!(0xF3EF 0x8000 Rd Special);
+
 pub const TT: Form<4> = form!(0xE840 0xF000 Rd Rn);
+
 pub const TTT: Form<4> = form!(0xE840 0xF040 Rd Rn);
+
 pub const TTA: Form<4> = form!(0xE840 0xF080 Rd Rn);
+
 pub const TTAT: Form<4> = form!(0xE840 0xF0C0 Rd Rn);
 
 /// The rows' names.
@@ -289,7 +338,12 @@ pub fn instr_of(opcode: Opcode, numbers: &[u32; 4]) -> Instr
         Opcode::Uxtb => Instr::Uxtb { d: a, m: b },
         Opcode::Uxth => Instr::Uxth { d: a, m: b },
         Opcode::Mul => Instr::Mul { d: a, n: b, m: c },
-        Opcode::Mls => Instr::Mls { d: a, n: b, m: c, a: d },
+        Opcode::Mls => Instr::Mls {
+            d: a,
+            n: b,
+            m: c,
+            a: d,
+        },
         Opcode::Sdiv => Instr::Sdiv { d: a, n: b, m: c },
         Opcode::Udiv => Instr::Udiv { d: a, n: b, m: c },
         Opcode::Ldr => Instr::Ldr { t: a, n: b, i: c },

@@ -158,3 +158,16 @@ fn writes(rt: HostRuntime) -> Result<(), Fail> {
     assert!(rt; !can_write(0x1000_0000, 4));
     Ok(())
 }
+
+#[test]
+fn target_answers(rt: HostRuntime) -> Result<(), Fail> {
+    let m = device(rt.alloc())?;
+    assert_eq!(rt; m.tt(0x0003_FFFF), 0x0094_0000);
+    assert_eq!(rt; m.tt(0x2000_0000), 0x01BC_0000);
+    assert_eq!(rt; m.tt(0x103F_EFFF), 0x02C4_0000);
+    assert_eq!(rt; m.tt(0x103F_F000), 0x03C4_0000);
+    assert_eq!(rt; m.tt(0x3000_FFFF), 0x04CC_0000);
+    assert_eq!(rt; m.tt(0x3001_0000), 0x05CC_0000);
+    assert_eq!(rt; m.tt(0x3001_A000), 0);
+    Ok(())
+}
