@@ -7,7 +7,7 @@ ghost use Rattle.ns_types.specs.declared.turn.Turn.{Turn};
 ghost use Rattle.ns_types.specs.Bounds.{IsWithin, Extends};
 ghost use Rattle.v8m_mem.specs.Rows.{IsStart};
 ghost use Rattle.v8m_core.specs.Reset.{reset_of};
-ghost use Rattle.ns_turns.specs.Refines.{Refines, Only};
+ghost use Rattle.ns_turns.specs.Refines.{Refines, Only, OnlyDeclared};
 ghost use Rattle.ns_turns.specs.Moments.{AllTell, AlwaysKnowsRam};
 ghost use Rattle.ns_turns.specs.TwoWorlds.{TwoWorlds};
 ghost use Rattle.constant_entry.specs.Code.{rom_bytes};
@@ -23,6 +23,7 @@ pub fn first_call()
 pub fn refinement()
     ensures does { (n : ℕ) → n < 2 ^ 32 → Refines (rom_bytes n) enters_first (constant_run n) }
     ensures only { (n : ℕ) → n < 2 ^ 32 → Only (rom_bytes n) enters_first (constant_run n) }
+    ensures declared { (n : ℕ) → n < 2 ^ 32 → OnlyDeclared (rom_bytes n) enters_first (constant_run n) }
 {}
 
 /// Two starts of which the program declares the same look the same to the caller.

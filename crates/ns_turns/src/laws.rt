@@ -15,7 +15,7 @@ ghost use Rattle.v8m_core.specs.Reset.{reset_of};
 ghost use Rattle.ns_turns.specs.Run.{after, ends, run_of, machine_run};
 ghost use Rattle.ns_turns.specs.GoesOn.{GoesOn};
 ghost use Rattle.ns_turns.specs.Moments.{Tells, StacksOutside, AllTell, KnowsRam};
-ghost use Rattle.ns_turns.specs.Refines.{Refines};
+ghost use Rattle.ns_turns.specs.Refines.{Refines, Only, OnlyDeclared, CallsFew};
 ghost use Rattle.ns_turns.specs.TwoWorlds.{TwoWorlds, TellsAll};
 
 /// At each hand-over of a run whose instructions tell what they write, Non-secure RAM is what the start, the turns and
@@ -43,4 +43,9 @@ pub fn driven()
 /// More steps only add events, and a run that is over stays so.
 pub fn more_steps()
     ensures { (rom : List ℕ) (start : Start) (ts : List Turn) (n m : ℕ) → n ≤ m → GoesOn (machine_run rom start ts n) (machine_run rom start ts m) }
+{}
+
+/// A machine that shows exactly what a program shows declares what the program declares.
+pub fn declared()
+    ensures { (rom : List ℕ) (enters : ℕ → Option ℕ) (run : Start → List Turn → Bound → Run) → Only rom enters run → CallsFew run → OnlyDeclared rom enters run }
 {}
