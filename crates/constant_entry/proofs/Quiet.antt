@@ -7,40 +7,38 @@ use Rattle.cm_base.specs.declared.stop.Stop.TheVariants as stop
 use Rattle.v8m_isa.specs.declared.instr.Instr.{Instr}
 use Rattle.v8m_isa.specs.declared.instr.Instr.TheVariants.{Bxns, B}
 use Rattle.v8m_isa.specs.Table.{size_of}
-use Rattle.ns_types.specs.declared.goes.Goes.{Goes}
-use Rattle.ns_types.specs.declared.goes.Goes.TheVariants as goes
 use Rattle.ns_types.specs.declared.state.Cpu.{Cpu}
 use Rattle.ns_types.specs.declared.state.Side.{Side}
 use Rattle.ns_types.specs.declared.state.Side.TheVariants.{Secure, NonSecure, Stopped}
 use Rattle.ns_types.specs.declared.turn.Turn.{Turn}
 use Rattle.ns_types.specs.declared.turn.Start.{Start}
 use Rattle.ns_types.specs.State.{State}
-use Rattle.ns_types.specs.Platform.{is_nonsecure, aligned}
+use Rattle.ns_types.specs.Platform.{aligned}
 use Rattle.ns_types.specs.Memory.{word_at}
 use Rattle.ns_types.specs.Ram.{AreSecure}
 use Rattle.ns_types.specs.Boundary.{acted, reset_address}
 use Rattle.ns_types.specs.CRun.{World}
 use Rattle.v8m_core.specs.declared.stepped.Stepped.{Stepped}
 use Rattle.v8m_core.specs.declared.stepped.Stepped.TheVariants as what
-use Rattle.v8m_core.specs.Step.{Done, went, stopped, unless, seen, handed, entered, turned, goes_in, arrived, return_to, bxns, effect_of, apply, act, step_of, turn_of}
+use Rattle.v8m_core.specs.Step.{Done, went, stopped, unless, seen, handed, entered, turned, goes_in, arrived, return_to, bxns, effect_of, apply, step_of, turn_of}
 use Rattle.v8m_core.specs.Code.{Holds, HasCode, Does}
 use Rattle.v8m_core.specs.Reset.{reset_of}
 use Rattle.v8m_core.proofs.Runs.{does, stays, has_front, has_back}
-use Rattle.v8m_core.proofs.GateLaws.{aligned_even, aligned_twice}
+use Rattle.v8m_core.proofs.GateLaws.{aligned_even}
 use Rattle.v8m_mem.specs.Rows.{IsStart}
 use Rattle.ns_turns.specs.Run.{next_of}
 use Rattle.ns_turns.specs.Moments.{is_write, Tells, stacks_outside, AllTell, AlwaysKnowsRam}
-use Rattle.ns_turns.proofs.Tell.{Told, told_apply}
+use Rattle.ns_turns.proofs.Tell.{told_apply}
 use Rattle.ns_turns.proofs.RamLaws.{tell_step, tell_turn}
 use Rattle.ns_turns.proofs.RamLaws as ram_laws
-use Rattle.constant_entry.specs.Code.{stacks_code, hand_code, start_front, start_code, entry_front, start_place, entry_place}
+use Rattle.constant_entry.specs.Code.{stacks_code, hand_code, start_front, entry_front, start_place, entry_place}
 use Rattle.constant_entry.specs.Shows.{first_veneer, GivesConstant}
 use Rattle.constant_entry.specs.Meaning.{enters_first}
 use Rattle.constant_entry.proofs.States.{sealed, handing, answering}
 use Rattle.constant_entry.proofs.Pieces.{seal_does, hand_does, answer_does}
 use Rattle.constant_entry.proofs.Views.{start_lr, branches}
 use Rattle.constant_entry.proofs.Whole.{seal_stands}
-use Rattle.constant_entry.proofs.Refine.{IsQuiet, return_quiet, outside_cases, goes_m, goes_in_is, bxns_arrives}
+use Rattle.constant_entry.proofs.Refine.{return_quiet, outside_cases, goes_m, goes_in_is, bxns_arrives}
 
 -- How it goes on, by who runs
 

@@ -1,5 +1,5 @@
 -- Each call of a run has at most four arguments, where bodies of entries keep to that.
-use Rattle.std.proofs.Common.{◌≡◌, ℕ, zero, suc, List, [], ◌∷◌, ◌++◌, length, Option, Some, None}
+use Rattle.std.proofs.Common.{ℕ, zero, suc, List, [], ◌∷◌, ◌++◌, length, Option, Some, None}
 use Rattle.std.specs.Prelude.{take}
 use Rattle.cm_base.specs.declared.stop.Stop.{Stop}
 use Rattle.cm_base.specs.declared.stop.Stop.TheVariants as stop
