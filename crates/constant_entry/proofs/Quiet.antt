@@ -147,14 +147,12 @@ record AtRest (s : State) : Type 0 where
   seal : word_at s.memory.secure_ram 98300 ≡ 4277530021
 
 module _ (rom : List ℕ) (n : ℕ) (h : GivesConstant rom n) where
-
   return_stops : (s : State) → AtRest s → return_to rom s ≡ stopped stop.ReturnFault s
   return_stops s q =
       let w : World = record { turns = []; events = []; peak = 0; memory = s.memory; msp_ns = s.cpu.msp_ns; psp_ns = s.cpu.psp_ns } in
       return_quiet rom s w (record { sp = q.sp; seal = q.seal; ram = refl; msp = refl; psp = refl })
 
   module _ (m : ℕ) (ts : List Turn) (waiting : (s : State) → AtRest s → s.cpu.side ≡ NonSecure → AllTell rom m ts s) (inside : (s : State) → AtRest s → AllTell rom m ts (entered first_veneer s)) where
-
     -- a branch to an even address
     arrival : (b : Bool) (a : ℕ) → eqb a first_veneer ≡ b → (show : Stepped) (s : State) → AtRest s → AllTell rom m ts (arrived rom (goes_m b a) a show s).state
     arrival true a at show s q =

@@ -40,7 +40,6 @@ told_pick true b c s d e p q = p
 told_pick false b c s d e p q = q
 
 module _ (b : Bool) (s : State) where
-
   abbrev Keeps : State → Type 0
   Keeps t = b ≡ true → t.memory.ns_ram ≡ s.memory.ns_ram
 

@@ -38,7 +38,6 @@ few_or None u rest h x = x
 few_or (Some y) u rest h x = few_stop y u h
 
 module _ (enters : ℕ → Option ℕ) (enter : ℕ → List ℕ → World → Outcome) (keep : KeepFew enter) where
-
   few_chain : (next : World → Outcome) → ((w : World) → AllHaveFewArguments w.events → Few (next w)) → (exit : ℕ) (kept : List ℕ) (left : ℕ) (g : Goes) (args : List ℕ) (w : World) → AllHaveFewArguments w.events → Few (chain enters enter next exit kept left g args w)
   few_chain next later exit kept zero (goes.Enter e) args w h = record { by = h }
   few_chain next later exit kept zero goes.Return args w h = record { by = h }
