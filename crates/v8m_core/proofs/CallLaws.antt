@@ -1,111 +1,17 @@
--- Words that are written and read again, and a call of the function return address.
-use Rattle.std.proofs.Common.{◌≡◌, ℕ, ◌+◌, ◌-◌, ◌%◌, ◌<◌, ◌≤◌, ◌⊎◌, Bool, true, false, cond, List, refl, sym, ap, ◌∙◌, subst, ⊎_elim, inl, inr, arith, Some, None}
-use Rattle.std.specs.Prelude.{eqb, not, ◌&&◌, ◌||◌}
+-- A call of Non-secure code, and one of the function return address.
+use Rattle.std.proofs.Common.{◌≡◌, ℕ, ◌+◌, ◌%◌, ◌<◌, Bool, true, false, cond, List, refl, sym, ap, ◌∙◌, ⊎_elim, inl, arith, Some, None}
+use Rattle.std.specs.Prelude.{eqb, not, ◌&&◌}
 use Rattle.std.proofs.lemmas.Bool.Decides.{nat_tests}
 use Rattle.cm_base.specs.declared.stop.Stop.TheVariants as stop
 use Rattle.ns_types.specs.declared.state.Cpu.{Cpu}
 use Rattle.ns_types.specs.declared.state.Side.TheVariants.{Secure}
 use Rattle.ns_types.specs.State.{State, Memory}
-use Rattle.ns_types.specs.Platform.{in_row, lies_in, is_readable, is_writable, is_in_rom, aligned}
-use Rattle.ns_types.specs.Memory.{IsWhole, word_at, put_word, load, store}
+use Rattle.ns_types.specs.Platform.{is_readable, is_writable, is_in_rom, aligned}
+use Rattle.ns_types.specs.Memory.{IsWhole, load, store}
 use Rattle.v8m_core.specs.Values.{difference32}
 use Rattle.v8m_core.specs.Lists.{next}
 use Rattle.v8m_core.specs.Step.{went, stopped, unless, or_stop, returned, return_stop, return_to, call_stop, called, only_stopped}
-use Rattle.v8m_core.proofs.Words.{same_word, other_word, length-put_word}
-
--- where a word can be written: Non-secure RAM, or Secure RAM
-record InNs (a : ℕ) : Type 0 where
-  secure : (in_row 4 a || in_row 5 a) ≡ false
-  ns : in_row 1 a ≡ true
-  from : 536870912 ≤ a
-  to : a + 4 ≤ 537001984
-
-record InSecure (a : ℕ) : Type 0 where
-  secure : (in_row 4 a || in_row 5 a) ≡ true
-  ns : in_row 1 a ≡ false
-  from : 805306368 ≤ a
-  to : a + 4 ≤ 805412864
-
-in_ns : (a : ℕ) → lies_in 1 a 4 ≡ true → InNs a
-in_ns a h =
-    let lo : 536870912 ≤ a = grind (arith, nat_tests) in
-    let hi : a + 4 ≤ 537001984 = grind (arith, nat_tests) in
-    record { secure = grind (arith, nat_tests); ns = grind (arith, nat_tests); from = lo; to = hi }
-
-in_secure : (a : ℕ) → (lies_in 4 a 4 || lies_in 5 a 4) ≡ true → InSecure a
-in_secure a h =
-    let lo : 805306368 ≤ a = grind (arith, nat_tests) in
-    let hi : a + 4 ≤ 805412864 = grind (arith, nat_tests) in
-    record { secure = grind (arith, nat_tests); ns = grind (arith, nat_tests); from = lo; to = hi }
-
-pick : (a : ℕ) (b d : Bool) → lies_in 1 a 4 ≡ b → (lies_in 4 a 4 || lies_in 5 a 4) ≡ d → (b || d) ≡ true → InNs a ⊎ InSecure a
-pick a true d p q h = inl (in_ns a p)
-pick a false d p q h = inr (in_secure a (q ∙ h))
-
-place : (a : ℕ) → is_writable a 4 ≡ true → InNs a ⊎ InSecure a
-unfolding is_writable
-place a h = pick a _ _ refl refl h
-
-load_ns : (a : ℕ) (rom : List ℕ) (m : Memory) → InNs a → load 4 a rom m ≡ word_at m.ns_ram (a - 536870912)
-unfolding load
-load_ns a rom m h = rw (h.secure, h.ns) refl
-
-load_secure : (a : ℕ) (rom : List ℕ) (m : Memory) → InSecure a → load 4 a rom m ≡ word_at m.secure_ram (a - 805306368)
-unfolding load
-load_secure a rom m h = rw h.secure refl
-
-store_ns : (a v : ℕ) (m : Memory) → InNs a → store 4 a v m ≡ record m { ns_ram = put_word m.ns_ram (a - 536870912) v }
-unfolding store
-store_ns a v m h = rw h.ns refl
-
-store_secure : (a v : ℕ) (m : Memory) → InSecure a → store 4 a v m ≡ record m { secure_ram = put_word m.secure_ram (a - 805306368) v }
-unfolding store
-store_secure a v m h = rw h.ns refl
-
--- the word that was written
-pub load_same : (a v : ℕ) (rom : List ℕ) (m : Memory) → IsWhole m → is_writable a 4 ≡ true → v < 4294967296 → load 4 a rom (store 4 a v m) ≡ v
-load_same a v rom m whole can lt =
-    ⊎_elim
-    (λ h. ap (load 4 a rom) (store_ns a v m h) ∙ load_ns a rom (record m { ns_ram = put_word m.ns_ram (a - 536870912) v }) h ∙ same_word m.ns_ram (a - 536870912) v (omega (arith, h.from, h.to, whole.ns_ram)) lt)
-    (λ h. ap (load 4 a rom) (store_secure a v m h) ∙ load_secure a rom (record m { secure_ram = put_word m.secure_ram (a - 805306368) v }) h ∙ same_word m.secure_ram (a - 805306368) v (omega (arith, h.from, h.to, whole.secure_ram)) lt)
-    (place a can)
-
--- another word is as it was
-pub load_other : (a b v : ℕ) (rom : List ℕ) (m : Memory) → is_writable a 4 ≡ true → is_writable b 4 ≡ true → (a + 4 ≤ b) ⊎ (b + 4 ≤ a) → load 4 a rom (store 4 b v m) ≡ load 4 a rom m
-load_other a b v rom m can_a can_b apart =
-    ⊎_elim
-    (λ h. ⊎_elim
-    (λ k. ap (load 4 a rom) (store_ns b v m k) ∙ load_ns a rom (record m { ns_ram = put_word m.ns_ram (b - 536870912) v }) h ∙ other_word m.ns_ram (b - 536870912) (a - 536870912) v (less a b 536870912 h.from k.from apart) ∙ sym (load_ns a rom m h))
-    (λ k. ap (load 4 a rom) (store_secure b v m k) ∙ load_ns a rom (record m { secure_ram = put_word m.secure_ram (b - 805306368) v }) h ∙ sym (load_ns a rom m h))
-    (place b can_b))
-    (λ h. ⊎_elim
-    (λ k. ap (load 4 a rom) (store_ns b v m k) ∙ load_secure a rom (record m { ns_ram = put_word m.ns_ram (b - 536870912) v }) h ∙ sym (load_secure a rom m h))
-    (λ k. ap (load 4 a rom) (store_secure b v m k) ∙ load_secure a rom (record m { secure_ram = put_word m.secure_ram (b - 805306368) v }) h ∙ other_word m.secure_ram (b - 805306368) (a - 805306368) v (less a b 805306368 h.from k.from apart) ∙ sym (load_secure a rom m h))
-    (place b can_b))
-    (place a can_a)
-  where
-    less : (a b from : ℕ) → from ≤ a → from ≤ b → (a + 4 ≤ b) ⊎ (b + 4 ≤ a) → (a - from + 4 ≤ b - from) ⊎ (b - from + 4 ≤ a - from)
-    less a b from p q out = ⊎_elim (λ l. inl (omega arith)) (λ l. inr (omega arith)) out
-
--- what can be written can be read
-or_more : (b0 b1 b2 b3 d : Bool) → (b1 || d) ≡ true → (b0 || (b1 || (b2 || (b3 || d)))) ≡ true
-or_more true b1 b2 b3 d h = refl
-or_more false true b2 b3 d h = refl
-or_more false false true b3 d h = refl
-or_more false false false true d h = refl
-or_more false false false false d h = h
-
-pub readable_where_writable : (a : ℕ) → is_writable a 4 ≡ true → is_readable a 4 ≡ true
-unfolding is_readable is_writable
-readable_where_writable a h = or_more (lies_in 0 a 4) (lies_in 1 a 4) (lies_in 2 a 4) (lies_in 3 a 4) (lies_in 4 a 4 || lies_in 5 a 4) h
-
--- a store leaves the lengths of the regions
-whole_store : (a v : ℕ) (m : Memory) → IsWhole m → is_writable a 4 ≡ true → IsWhole (store 4 a v m)
-whole_store a v m whole can =
-    ⊎_elim
-    (λ h. subst IsWhole (sym (store_ns a v m h)) (record { ns_rom = whole.ns_rom; ns_ram = length-put_word m.ns_ram (a - 536870912) v ∙ whole.ns_ram; secure_ram = whole.secure_ram }))
-    (λ h. subst IsWhole (sym (store_secure a v m h)) (record { ns_rom = whole.ns_rom; ns_ram = whole.ns_ram; secure_ram = length-put_word m.secure_ram (a - 805306368) v ∙ whole.secure_ram }))
-    (place a can)
+use Rattle.v8m_core.proofs.Ram.{place, load_same, load_other, whole_store, readable_where_writable}
 
 -- a call that doesn't stop has room for its two words
 no_stop : (b1 b2 b3 : Bool) → cond b1 (Some stop.BadState) (or_stop (cond b2 (Some stop.StackLimit) None) (cond b3 None (Some stop.Unmapped))) ≡ None → (b1 ≡ false) × (b3 ≡ true)

@@ -1,5 +1,5 @@
 -- Which numbers the fields of an instruction take (DDI0553, part C).
-use Rattle.std.specs.Prelude.{ℕ, ◌+◌, ◌-◌, ◌/◌, ◌%◌, ◌^◌, Bool, ◌&&◌, ◌||◌, not, eqb, ltb, leb, count_ones}
+use Rattle.std.specs.Prelude.{ℕ, ◌-◌, ◌/◌, ◌%◌, ◌^◌, Bool, ◌&&◌, ◌||◌, not, eqb, ltb, leb, count_ones}
 
 -- a register other than SP and PC
 abbrev pub is_register : ℕ → Bool

@@ -1,5 +1,5 @@
 -- A row of the instruction table: where the bits of its fields stand in the word first:second, and which numbers they take.
-use Rattle.std.specs.Prelude.{ℕ, ◌+◌, ◌-◌, ◌*◌, ◌/◌, ◌%◌, ◌^◌, Bool, true, false, cond, ◌&&◌, ◌||◌, not, eqb, ltb, leb, List, [], ◌∷◌, bit_or, count_ones, map, Option, Some, None}
+use Rattle.std.specs.Prelude.{ℕ, ◌+◌, ◌-◌, ◌*◌, ◌/◌, ◌%◌, ◌^◌, Bool, true, false, cond, ◌&&◌, eqb, ltb, leb, List, [], ◌∷◌, bit_or, map, Option, Some, None}
 use Rattle.std.specs.List.{list_all}
 use Rattle.v8m_isa.specs.declared.instr.Code.{Code}
 use Rattle.v8m_isa.specs.declared.form.Piece.{Piece}

@@ -137,7 +137,7 @@ fn branches(rt: HostRuntime) {
     assert!(rt; is(Instr::B { off: 0xFF00_0000 }, 0xF400_9000));
     assert!(rt; is(Instr::B { off: 0x40_0000 }, 0xF000_B000));
     assert!(rt; is(Instr::B { off: 0xFFBF_FFFE }, 0xF7FF_B7FF));
-    assert!(rt; is(Instr::B { off: 0xFFC0_0878 }, 0xF400_BC3C));
+    assert!(rt; is(Instr::B { off: 0xFFC0_10F8 }, 0xF401_B87C));
     assert!(rt; is(Instr::Bl { off: 0 }, 0xF000_F800));
     assert!(rt; is(Instr::Bl { off: 0x12_3456 }, 0xF123_FA2B));
     assert!(rt; is(Instr::Bl { off: 0xFFFF_FFFE }, 0xF7FF_FFFF));
