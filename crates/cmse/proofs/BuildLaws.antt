@@ -17,6 +17,7 @@ use Rattle.constant_entry.proofs.Views.{shows_constant}
 use Rattle.constant_entry.proofs.Whole.{refines}
 use Rattle.constant_entry.proofs.Clean.{clean_run}
 use Rattle.constant_entry.proofs.Tracked.{tells_all}
+use Rattle.constant_entry.proofs.Quiet.{knows_ram}
 use Rattle.constant_entry.proofs.Placed.{gives_constant}
 use Rattle.cmse.specs.declared.status.Status.{Status}
 use Rattle.cmse.specs.declared.status.Status.TheVariants.{Done, Refused, BadWords, CannotRead, CannotWrite, NoMemory, BadInput}
@@ -40,6 +41,7 @@ builds text name lib img n form lists reads =
       does = does;
       only = only_from_refines (rom_bytes n) enters_first (constant_run n) does (clean_run n);
       worlds = two_worlds (rom_bytes n) enters_first (constant_run n) does (tells_all n);
+      ram = knows_ram (rom_bytes n) n holds;
     }
 
 end_short : (rest : List ℕ) → IsEnd rest → length rest ≤ 4

@@ -9,6 +9,7 @@ use Rattle.cmse_build.specs.Constant.{IsConstant}
 use Rattle.cmse_build.specs.Reading.{rom_of_image}
 use Rattle.ns_turns.specs.Refines.{Refines, Only}
 use Rattle.ns_turns.specs.TwoWorlds.{TwoWorlds}
+use Rattle.ns_turns.specs.Moments.{AlwaysKnowsRam}
 use Rattle.constant_entry.specs.Shows.{ShowsConstant, first_veneer}
 use Rattle.constant_entry.specs.Meaning.{enters_first, constant_run}
 use Rattle.cmse.specs.Files.{OthersThanStay}
@@ -21,7 +22,8 @@ one_veneer name = record { name = name; address = first_veneer } ∷ []
 
 -- A text, and the library and the image that are built from it: the text is that of the entry of some name that gives
 -- some number; the library lists the entry at the first veneer; and the Secure ROM that the image reads as does what
--- the program does, and shows what the program shows. Two starts of which the program declares the same look the same.
+-- the program does, and shows what the program shows. Two starts of which the program declares the same look the same,
+-- and the machine's Non-secure RAM is at each hand-over what the start, the turns and the events make of it.
 pub record Builds (text library image : List ℕ) : Type 0 where
   pub name : List ℕ
   pub n : ℕ
@@ -33,6 +35,7 @@ pub record Builds (text library image : List ℕ) : Type 0 where
   pub does : Refines rom enters_first (constant_run n)
   pub only : Only rom enters_first (constant_run n)
   pub worlds : TwoWorlds rom enters_first (constant_run n)
+  pub ram : AlwaysKnowsRam rom enters_first
 
 -- no entry that gives a number has this text
 abbrev pub IsOther : List ℕ → Type 0

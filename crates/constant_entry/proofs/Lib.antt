@@ -6,3 +6,4 @@ pub mod Whole
 pub mod Clean
 pub mod Placed
 pub mod Tracked
+pub mod Quiet

@@ -50,7 +50,7 @@ pub record IsQuiet (s : State) (w : World) : Type 0 where
   pub psp : s.cpu.psp_ns ≡ w.psp_ns
 
 -- a function return finds the seal
-return_quiet : (rom : List ℕ) (s : State) (w : World) → IsQuiet s w → return_to rom s ≡ stopped stop.ReturnFault s
+pub return_quiet : (rom : List ℕ) (s : State) (w : World) → IsQuiet s w → return_to rom s ≡ stopped stop.ReturnFault s
 unfolding return_to return_stop is_readable load
 return_quiet rom s w q =
     let test : ℕ → ℕ → Option Stop = λ p x.
@@ -62,7 +62,7 @@ return_quiet rom s w q =
     ap (λ o. unless o s (went (returned (aligned 2 (load 4 s.cpu.regs.sp rom s.memory)) s))) (at_sp ∙ ap (test 805404664) q.seal)
 
 -- where a branch goes that is at no entry
-outside_cases : (P : Goes → Type 0) → P goes.Return → P goes.Turn → P goes.EntryPoint → P goes.Astray → (a : ℕ) → P (goes_outside a)
+pub outside_cases : (P : Goes → Type 0) → P goes.Return → P goes.Turn → P goes.EntryPoint → P goes.Astray → (a : ℕ) → P (goes_outside a)
 outside_cases P r t e x a = pick (eqb a function_return) (is_nonsecure a) (is_secure a)
   where
     pick : (b c d : Bool) → P (cond b goes.Return (cond c goes.Turn (cond d goes.EntryPoint goes.Astray)))

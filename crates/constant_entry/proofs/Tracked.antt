@@ -2,10 +2,13 @@
 use Rattle.std.proofs.Common.{ℕ, zero, suc, ◌≤◌, List, [], refl, arith}
 use Rattle.std.proofs.lemmas.List.{append-nil}
 use Rattle.ns_types.specs.CRun.{World}
-use Rattle.ns_types.specs.Bounds.{Adds, Reaches, GoesFurther}
+use Rattle.ns_types.specs.Bounds.{world_of, Adds, Reaches, GoesFurther}
 use Rattle.ns_types.specs.Marks.{Tracker, Follows, Tracks, AreTracked}
+use Rattle.ns_types.specs.Declares.{AllHaveFewArguments, KeepFew}
 use Rattle.ns_types.proofs.MarkLaws.{run_told}
+use Rattle.ns_types.proofs.FewLaws.{run_few}
 use Rattle.v8m_mem.specs.Rows.{memory_of}
+use Rattle.ns_turns.specs.Refines.{CallsFew}
 use Rattle.ns_turns.specs.TwoWorlds.{TellsAll}
 use Rattle.constant_entry.specs.Meaning.{enters_first, gives, constant_run}
 
@@ -38,3 +41,14 @@ goes_further n = record { adds = λ b. adds b.deep; more = λ a b within. more a
     more zero (suc high) le e args w = record { front = ([], append-nil w.events); same = λ s. cc }
     more (suc low) zero le e args w = absurd (omega arith)
     more (suc low) (suc high) le e args w = record { front = ([], append-nil w.events); same = λ s. refl }
+
+keeps_few : (n deep : ℕ) → KeepFew (gives n deep)
+keeps_few n deep = record { by = by deep }
+  where
+    by : (deep e : ℕ) (args : List ℕ) (w : World) → AllHaveFewArguments w.events → AllHaveFewArguments (world_of (gives n deep e args w)).events
+    by zero e args w h = h
+    by (suc deep) e args w h = h
+
+-- it calls nothing
+pub calls_few : (n : ℕ) → CallsFew (constant_run n)
+calls_few n start ts b = run_few enters_first (gives n b.deep) (keeps_few n b.deep) b.turns start (memory_of start) ts

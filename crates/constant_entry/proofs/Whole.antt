@@ -33,7 +33,7 @@ use Rattle.constant_entry.proofs.Refine.{IsQuiet, Plays, goes_m, goes_c, goes_of
 use Rattle.ns_types.proofs.ShowLaws.{events_append}
 
 -- the start code writes the second word of the main stack's seal
-seal_stands : (s : State) → length s.memory.secure_ram ≡ 106496 → word_at (sealed s).memory.secure_ram 98300 ≡ 4277530021
+pub seal_stands : (s : State) → length s.memory.secure_ram ≡ 106496 → word_at (sealed s).memory.secure_ram 98300 ≡ 4277530021
 unfolding store
 seal_stands s len =
     let r1 = put_word s.memory.secure_ram 102392 4277530021 in

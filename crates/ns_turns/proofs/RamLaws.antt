@@ -29,7 +29,7 @@ use Rattle.v8m_core.proofs.Runs.{stays}
 use Rattle.ns_turns.specs.Run.{event_of, ends, after, next_of, run_of, machine_run}
 use Rattle.ns_turns.specs.Moments.{Moment, moments_of, moments, events_in, given_ram, is_write, Tells, AllTell, KnowsRam}
 use Rattle.ns_turns.proofs.RunLaws.{run_step, run_turn, run_waits}
-use Rattle.ns_turns.proofs.Tell.{Leads, told, tells}
+use Rattle.ns_turns.proofs.Tell.{Leads, told}
 
 -- How both go on, by who runs
 
@@ -75,27 +75,15 @@ no_moment : (rom : List ℕ) (ts : List Turn) (s : State) → moments rom zero t
 unfolding moments
 no_moment rom ts s = refl
 
-tell_step : (rom : List ℕ) (n : ℕ) (ts : List Turn) (s : State) → s.cpu.side ≡ Secure → AllTell rom (suc n) ts s → Tells rom s × AllTell rom n ts (step_of rom s).state
+pub tell_step : (rom : List ℕ) (n : ℕ) (ts : List Turn) (s : State) → s.cpu.side ≡ Secure → AllTell rom (suc n) ts s → Tells rom s × AllTell rom n ts (step_of rom s).state
 unfolding AllTell
 tell_step rom n ts s side h =
     subst (λ x. next_of (λ e. Unit {0}) (λ t rest. AllTell rom n rest (turn_of rom t s).state) (Tells rom s × AllTell rom n ts (step_of rom s).state) x ts) side h
 
-tell_turn : (rom : List ℕ) (n : ℕ) (t : Turn) (ts : List Turn) (s : State) → s.cpu.side ≡ NonSecure → AllTell rom (suc n) (t ∷ ts) s → AllTell rom n ts (turn_of rom t s).state
+pub tell_turn : (rom : List ℕ) (n : ℕ) (t : Turn) (ts : List Turn) (s : State) → s.cpu.side ≡ NonSecure → AllTell rom (suc n) (t ∷ ts) s → AllTell rom n ts (turn_of rom t s).state
 unfolding AllTell
 tell_turn rom n t ts s side h =
     subst (λ x. next_of (λ e. Unit {0}) (λ t rest. AllTell rom n rest (turn_of rom t s).state) (Tells rom s × AllTell rom n (t ∷ ts) (step_of rom s).state) x (t ∷ ts)) side h
-
--- all instructions of the table do
-pub all_tell : (rom : List ℕ) (n : ℕ) (ts : List Turn) (s : State) → AllTell rom n ts s
-unfolding AllTell
-all_tell rom zero ts s = tt
-all_tell rom (suc n) ts s = by (all_tell rom n) s.cpu.side refl ts
-  where
-    by : ((us : List Turn) (t : State) → AllTell rom n us t) → (x : Side) → s.cpu.side ≡ x → (us : List Turn) → next_of (λ e. Unit {0}) (λ t rest. AllTell rom n rest (turn_of rom t s).state) (Tells rom s × AllTell rom n ts (step_of rom s).state) x us
-    by rest Secure side us = (tells rom s side, rest ts (step_of rom s).state)
-    by rest NonSecure side [] = tt
-    by rest NonSecure side (t ∷ us) = rest us (turn_of rom t s).state
-    by rest (Stopped x) side us = tt
 
 -- The events of the moments
 

@@ -1,14 +1,16 @@
 -- What a step of Secure code leaves of Non-secure RAM, and who runs after it.
-use Rattle.std.proofs.Common.{◌≡◌, ℕ, ◌+◌, ◌-◌, ◌%◌, Bool, true, false, cond, List, refl, Option, Some, None}
-use Rattle.std.specs.Prelude.{eqb, ltb}
+use Rattle.std.proofs.Common.{◌≡◌, ℕ, ◌+◌, ◌-◌, ◌%◌, Bool, true, false, cond, List, [], ◌∷◌, refl, ap, ◌∙◌, Option, Some, None}
+use Rattle.std.specs.Prelude.{eqb, not, ◌&&◌}
 use Rattle.cm_base.specs.declared.stop.Stop.{Stop}
 use Rattle.cm_base.specs.declared.stop.Stop.TheVariants as stop
 use Rattle.v8m_isa.specs.Table.{Decoded, decode_of, is_narrow}
 use Rattle.ns_types.specs.declared.goes.Goes.{Goes}
 use Rattle.ns_types.specs.declared.goes.Goes.TheVariants as goes
+use Rattle.ns_types.specs.declared.state.Cpu.{Cpu}
+use Rattle.ns_types.specs.declared.state.Regs.{Regs}
 use Rattle.ns_types.specs.declared.state.Side.TheVariants.{Secure, NonSecure, Stopped}
 use Rattle.ns_types.specs.declared.turn.View.{View}
-use Rattle.ns_types.specs.State.{State}
+use Rattle.ns_types.specs.State.{get_of, Memory, State}
 use Rattle.ns_types.specs.Platform.{row, in_row, is_in_rom, aligned}
 use Rattle.ns_types.specs.Memory.{put_number, store}
 use Rattle.ns_types.specs.Boundary.{function_return}
@@ -16,8 +18,10 @@ use Rattle.v8m_core.specs.declared.stepped.Stepped.{Stepped}
 use Rattle.v8m_core.specs.declared.stepped.Stepped.TheVariants as what
 use Rattle.v8m_core.specs.declared.effect.Effect.{Effect}
 use Rattle.v8m_core.specs.declared.effect.Effect.TheVariants as effect
-use Rattle.v8m_core.specs.Step.{Done, went, stopped, unless, fetched, goes_in, seen, arrived, return_stop, return_to, bxns, effect_of, put, write_register, load_stop, store_stop, apply, act_or, step_of}
-use Rattle.ns_turns.specs.Moments.{is_write, Tells}
+use Rattle.v8m_core.specs.Values.{difference32}
+use Rattle.v8m_core.specs.Lists.{registers, in_list, next, all_stored}
+use Rattle.v8m_core.specs.Step.{Done, went, stopped, unless, fetched, goes_in, seen, arrived, return_stop, return_to, bx, bxns, limit_stop, link, call_stop, called, only_stopped_by, blxns, effect_of, put, write_register, load_stop, store_stop, pushed_sp, push_stop, pop_stop, pushed, popped, apply, act_or, step_of}
+use Rattle.ns_turns.specs.Moments.{is_write, Tells, none_in_ram, stacks_outside, outside_or, instr_at, StacksOutside}
 
 -- after a step from s to t
 abbrev pub Leads : Stepped → State → State → Type 0
@@ -26,75 +30,145 @@ Leads (what.Wrote a n v) s t = (t.cpu.side ≡ Secure) × (t.memory.ns_ram ≡ p
 Leads (what.Given view) s t = t.cpu.side ≡ NonSecure
 Leads (what.Stopped x) s t = t.cpu.side ≡ Stopped x
 
-pub record Told (s : State) (d : Done) : Type 0 where
+-- where the instruction stacks no word in Non-secure RAM, no other event than a write changes it
+pub record Told (outside : Bool) (s : State) (d : Done) : Type 0 where
   pub leads : Leads d.what s d.state
-  pub stays : is_write d.what ≡ false → d.state.memory.ns_ram ≡ s.memory.ns_ram
+  pub stays : outside ≡ true → is_write d.what ≡ false → d.state.memory.ns_ram ≡ s.memory.ns_ram
 
-told_stopped : (x : Stop) (s : State) → Told s (stopped x s)
-told_stopped x s = record { leads = refl; stays = λ e. refl }
+told_pick : (x b c : Bool) (s : State) (d e : Done) → Told b s d → Told c s e → Told (cond x b c) s (cond x d e)
+told_pick true b c s d e p q = p
+told_pick false b c s d e p q = q
 
-told_went : (s t : State) → t.memory.ns_ram ≡ s.memory.ns_ram → Told s (went t)
-told_went s t same = record { leads = tt; stays = λ e. same }
+module _ (b : Bool) (s : State) where
+  abbrev Keeps : State → Type 0
+  Keeps t = b ≡ true → t.memory.ns_ram ≡ s.memory.ns_ram
 
-told_unless : (o : Option Stop) (s : State) (d : Done) → Told s d → Told s (unless o s d)
-told_unless None s d h = h
-told_unless (Some x) s d h = told_stopped x s
+  told_stopped : (x : Stop) (t : State) → Keeps t → Told b s (stopped x t)
+  told_stopped x t same = record { leads = refl; stays = λ o e. same o }
 
-told_cond : (b : Bool) (s : State) (d e : Done) → Told s d → Told s e → Told s (cond b d e)
-told_cond true s d e x y = x
-told_cond false s d e x y = y
+  told_went : (t : State) → Keeps t → Told b s (went t)
+  told_went t same = record { leads = tt; stays = λ o e. same o }
 
-told_return : (rom : List ℕ) (s : State) → Told s (return_to rom s)
-unfolding return_to
-told_return rom s = told_unless (return_stop rom s) s _ (told_went s _ refl)
+  told_unless : (o : Option Stop) (t : State) (d : Done) → Keeps t → Told b s d → Told b s (unless o t d)
+  told_unless None t d same h = h
+  told_unless (Some x) t d same h = told_stopped x t same
 
-told_arrived : (rom : List ℕ) (g : Goes) (a : ℕ) (view : View) (s : State) → Told s (arrived rom g a (what.Given view) s)
-told_arrived rom (goes.Enter e) a view s = told_went s _ refl
-told_arrived rom goes.Return a view s = told_return rom s
-told_arrived rom goes.Turn a view s = record { leads = refl; stays = λ e. refl }
-told_arrived rom goes.EntryPoint a view s = told_stopped stop.EntryPoint s
-told_arrived rom goes.Astray a view s = told_stopped stop.Astray s
+  told_cond : (x : Bool) (d e : Done) → Told b s d → Told b s e → Told b s (cond x d e)
+  told_cond true d e p q = p
+  told_cond false d e p q = q
 
-told_bxns : (rom : List ℕ) (v : ℕ) (s : State) → Told s (bxns rom v s)
-unfolding bxns
-told_bxns rom v s =
-    told_cond (eqb (aligned 2 v) function_return) s _ _ (told_return rom s)
-    (told_cond (eqb (v % 2) 0) s _ _ (told_arrived rom (goes_in rom v) v (seen s.cpu v) s)
-    (told_cond (is_in_rom (v - 1)) s _ _ (told_went s (record s { cpu = record s.cpu { pc = v - 1 } }) refl) (told_stopped stop.BadState s)))
+  told_return : (rom : List ℕ) (t : State) → Keeps t → Told b s (return_to rom t)
+  unfolding return_to
+  told_return rom t same = told_unless (return_stop rom t) t _ same (told_went _ same)
 
-told_stored : (b : Bool) (s t u : State) (a n v : ℕ) → t.cpu.side ≡ Secure → t.memory.ns_ram ≡ put_number n s.memory.ns_ram (a - (row 1).from) v → u.memory.ns_ram ≡ s.memory.ns_ram → Told s (record { state = record t { memory = cond b t.memory u.memory }; what = cond b (what.Wrote a n v) what.Went })
-told_stored true s t u a n v side wrote same = record { leads = (side, wrote); stays = λ e. cc }
-told_stored false s t u a n v side wrote same = record { leads = tt; stays = λ e. same }
+  told_arrived : (rom : List ℕ) (g : Goes) (a : ℕ) (view : View) (t : State) → Keeps t → Told b s (arrived rom g a (what.Given view) t)
+  told_arrived rom (goes.Enter e) a view t same = told_went _ same
+  told_arrived rom goes.Return a view t same = told_return rom t same
+  told_arrived rom goes.Turn a view t same = record { leads = refl; stays = λ o e. same o }
+  told_arrived rom goes.EntryPoint a view t same = told_stopped stop.EntryPoint t same
+  told_arrived rom goes.Astray a view t same = told_stopped stop.Astray t same
 
-told_apply : (rom : List ℕ) (e : Effect) (size : ℕ) (s : State) → s.cpu.side ≡ Secure → Told s (apply rom e size s)
-unfolding apply write_register store
-told_apply rom effect.Pass size s h = told_went s _ refl
-told_apply rom (effect.Stop x) size s h = told_stopped x s
+  told_only : (w : Stepped) (d : Done) → Told b s d → Told b s (only_stopped_by w s d)
+  told_only what.Went d h = h
+  told_only (what.Wrote a n v) d h = h
+  told_only (what.Given view) d h = h
+  told_only (what.Stopped x) d h = told_stopped x s (λ o. refl)
+
+  told_stored : (x : Bool) (t u : State) (a n v : ℕ) → t.cpu.side ≡ Secure → t.memory.ns_ram ≡ put_number n s.memory.ns_ram (a - (row 1).from) v → u.memory.ns_ram ≡ s.memory.ns_ram → Told b s (record { state = record t { memory = cond x t.memory u.memory }; what = cond x (what.Wrote a n v) what.Went })
+  told_stored true t u a n v side wrote same = record { leads = (side, wrote); stays = λ o e. cc }
+  told_stored false t u a n v side wrote same = record { leads = tt; stays = λ o e. same }
+
+  told_bxns : (rom : List ℕ) (v : ℕ) → Told b s (bxns rom v s)
+  unfolding bxns
+  told_bxns rom v =
+      told_cond (eqb (aligned 2 v) function_return) _ _ (told_return rom s (λ o. refl))
+      (told_cond (eqb (v % 2) 0) _ _ (told_arrived rom (goes_in rom v) v (seen s.cpu v) s (λ o. refl))
+      (told_cond (is_in_rom (v - 1)) _ _ (told_went (record s { cpu = record s.cpu { pc = v - 1 } }) (λ o. refl)) (told_stopped stop.BadState s (λ o. refl))))
+
+  told_bx : (rom : List ℕ) (v : ℕ) → Told b s (bx rom v s)
+  unfolding bx
+  told_bx rom v =
+      told_cond (eqb (aligned 2 v) function_return) _ _ (told_return rom s (λ o. refl))
+      (told_cond (not (eqb (v % 2) 0) && is_in_rom (v - 1)) _ _ (told_went (record s { cpu = record s.cpu { pc = v - 1 } }) (λ o. refl)) (told_stopped stop.BadState s (λ o. refl)))
+
+-- words that are stacked outside
+
+not_in : (x : Bool) → not x ≡ true → x ≡ false
+not_in true h = cc
+not_in false h = refl
+
+and_parts : (x y : Bool) → (x && y) ≡ true → (x ≡ true) × (y ≡ true)
+and_parts true y h = (refl, h)
+and_parts false y h = cc
+
+store_outside : (n a v : ℕ) (m : Memory) → not (in_row 1 a) ≡ true → (store n a v m).ns_ram ≡ m.ns_ram
+unfolding store
+store_outside n a v m h =
+    ap (λ x. (cond x (record m { ns_ram = put_number n m.ns_ram (a - (row 1).from) v }) (record m { secure_ram = put_number n m.secure_ram (a - (row 4).from) v })).ns_ram) (not_in (in_row 1 a) h)
+
+all_outside : (list : ℕ) (ns : List ℕ) (r : Regs) (a : ℕ) (m : Memory) → none_in_ram list ns a ≡ true → (all_stored list ns r a m).ns_ram ≡ m.ns_ram
+unfolding all_stored
+all_outside list [] r a m h = refl
+all_outside list (n ∷ ns) r a m h = by (in_list list n) (all_outside list ns r) h
+  where
+    by : (x : Bool) → ((a : ℕ) (m : Memory) → none_in_ram list ns a ≡ true → (all_stored list ns r a m).ns_ram ≡ m.ns_ram) → cond x (not (in_row 1 a) && none_in_ram list ns (next a)) (none_in_ram list ns a) ≡ true → (cond x (all_stored list ns r (next a) (store 4 a (get_of r n) m)) (all_stored list ns r a m)).ns_ram ≡ m.ns_ram
+    by true rest q = let p = and_parts (not (in_row 1 a)) (none_in_ram list ns (next a)) q in rest (next a) (store 4 a (get_of r n) m) p.1 ∙ store_outside 4 a (get_of r n) m p.0
+    by false rest q = rest a m q
+
+told_blxns : (rom : List ℕ) (v size : ℕ) (s : State) → Told (stacks_outside (effect.Blxns v) s.cpu) s (blxns rom v size s)
+unfolding blxns
+told_blxns rom v size s =
+    let sp = difference32 s.cpu.regs.sp 8 in
+    let b = not (in_row 1 sp) && not (in_row 1 (next sp)) in
+    let t = called (link size s.cpu) s in
+    let same : Keeps b s t = λ o. let p = and_parts (not (in_row 1 sp)) (not (in_row 1 (next sp))) o in store_outside 4 (next sp) 0 (store 4 sp (link size s.cpu) s.memory) p.1 ∙ store_outside 4 sp (link size s.cpu) s.memory p.0 in
+    told_pick (eqb (v % 2) 0) b true s _ _
+    (told_unless b s (call_stop s.cpu) s _ (λ o. refl) (told_only b s _ _ (told_arrived b s rom (goes_in rom v) v (seen t.cpu v) t same)))
+    (told_cond true s (is_in_rom (v - 1)) _ _ (told_went true s (record s { cpu = record s.cpu { regs = record s.cpu.regs { lr = link size s.cpu }; pc = v - 1 } }) (λ o. refl)) (told_stopped true s stop.BadState s (λ o. refl)))
+
+pub told_apply : (rom : List ℕ) (e : Effect) (size : ℕ) (s : State) → s.cpu.side ≡ Secure → Told (stacks_outside e s.cpu) s (apply rom e size s)
+unfolding apply write_register store pushed popped
+told_apply rom effect.Pass size s h = told_went true s _ (λ o. refl)
+told_apply rom (effect.Stop x) size s h = told_stopped true s x s (λ o. refl)
 told_apply rom (effect.Put d v) size s h =
-    told_cond (eqb d 13) s _ _ (told_cond (ltb v s.cpu.msplim) s _ _ (told_stopped stop.StackLimit s) (told_went s (put size 13 (aligned 4 v) s) refl)) (told_went s (put size d v s) refl)
-told_apply rom (effect.Load t a n) size s h = told_unless (load_stop a n) s _ (told_went s _ refl)
+    told_cond true s (eqb d 13) _ _ (told_unless true s (limit_stop v s.cpu) s _ (λ o. refl) (told_went true s (put size 13 (aligned 4 v) s) (λ o. refl))) (told_went true s (put size d v s) (λ o. refl))
+told_apply rom (effect.Load t a n) size s h = told_unless true s (load_stop a n) s _ (λ o. refl) (told_went true s _ (λ o. refl))
+told_apply rom (effect.LoadSigned t a n) size s h = told_unless true s (load_stop a n) s _ (λ o. refl) (told_went true s _ (λ o. refl))
 told_apply rom (effect.Store a n v) size s h =
     let m = s.memory in
     let next = record s.cpu { pc = s.cpu.pc + size } in
     let seen_there : State = record { cpu = next; memory = record m { ns_ram = put_number n m.ns_ram (a - (row 1).from) v } } in
     let unseen : State = record { cpu = next; memory = record m { secure_ram = put_number n m.secure_ram (a - (row 4).from) v } } in
-    told_unless (store_stop a n) s _ (told_stored (in_row 1 a) s seen_there unseen a n v h refl refl)
-told_apply rom (effect.Jump a) size s h = told_went s _ refl
-told_apply rom (effect.Special k v) size s h = told_went s _ refl
-told_apply rom (effect.Bxns v) size s h = told_bxns rom v s
+    told_unless true s (store_stop a n) s _ (λ o. refl) (told_stored true s (in_row 1 a) seen_there unseen a n v h refl refl)
+told_apply rom (effect.Push list) size s h =
+    told_unless _ s (push_stop list s.cpu) s _ (λ o. refl) (told_went _ s _ (λ o. all_outside list registers s.cpu.regs (pushed_sp list s.cpu) s.memory o))
+told_apply rom (effect.Pop list) size s h = told_unless true s (pop_stop list s.cpu) s _ (λ o. refl) (told_went true s _ (λ o. refl))
+told_apply rom (effect.Flags flags) size s h = told_went true s _ (λ o. refl)
+told_apply rom (effect.Jump a) size s h = told_went true s _ (λ o. refl)
+told_apply rom (effect.Call a) size s h = told_went true s _ (λ o. refl)
+told_apply rom (effect.Special k v) size s h = told_went true s _ (λ o. refl)
+told_apply rom (effect.Bx v) size s h = told_bx true s rom v
+told_apply rom (effect.Bxns v) size s h = told_bxns true s rom v
+told_apply rom (effect.Blxns v) size s h = told_blxns rom v size s
 
-told_act : (rom : List ℕ) (o : Option Decoded) (s : State) → s.cpu.side ≡ Secure → Told s (act_or rom o s)
-told_act rom None s h = told_stopped stop.Undefined s
+told_act : (rom : List ℕ) (o : Option Decoded) (s : State) → s.cpu.side ≡ Secure → Told (outside_or o s.cpu) s (act_or rom o s)
+told_act rom None s h = told_stopped true s stop.Undefined s (λ o. refl)
 told_act rom (Some d) s h = told_apply rom (effect_of d.instr s.cpu) d.size s h
 
-pub told : (rom : List ℕ) (s : State) → s.cpu.side ≡ Secure → Told s (step_of rom s)
+told_fetched : (x y : Bool) (p q : Option Decoded) (c : Cpu) (s : State) (d e : Done) → Told (outside_or p c) s d → Told (outside_or q c) s e → Told (outside_or (cond x p q) c) s (cond x d (cond y e (stopped stop.BadState s)))
+told_fetched true y p q c s d e h k = h
+told_fetched false true p q c s d e h k = k
+told_fetched false false p q c s d e h k = told_stopped (outside_or q c) s stop.BadState s (λ o. refl)
+
+pub told : (rom : List ℕ) (s : State) → s.cpu.side ≡ Secure → Told (outside_or (instr_at rom s) s.cpu) s (step_of rom s)
 unfolding step_of
 told rom s h =
     let pc = s.cpu.pc in
-    told_cond (is_in_rom pc) s _ _
-    (told_cond (is_narrow (fetched rom pc)) s _ _ (told_act rom (decode_of (fetched rom pc) 0) s h)
-    (told_cond (is_in_rom (pc + 2)) s _ _ (told_act rom (decode_of (fetched rom pc) (fetched rom (pc + 2))) s h) (told_stopped stop.BadState s)))
-    (told_stopped stop.BadState s)
+    told_cond (outside_or (instr_at rom s) s.cpu) s (is_in_rom pc) _ _
+    (told_fetched (is_narrow (fetched rom pc)) (is_in_rom (pc + 2)) (decode_of (fetched rom pc) 0) (decode_of (fetched rom pc) (fetched rom (pc + 2))) s.cpu s _ _
+    (told_act rom (decode_of (fetched rom pc) 0) s h)
+    (told_act rom (decode_of (fetched rom pc) (fetched rom (pc + 2))) s h))
+    (told_stopped (outside_or (instr_at rom s) s.cpu) s stop.BadState s (λ o. refl))
 
-pub tells : (rom : List ℕ) (s : State) → s.cpu.side ≡ Secure → Tells rom s
-tells rom s h = (told rom s h).stays
+pub tells : (rom : List ℕ) (s : State) → s.cpu.side ≡ Secure → StacksOutside rom s → Tells rom s
+tells rom s h outside = (told rom s h).stays outside

@@ -1,14 +1,22 @@
 -- Non-secure RAM at the hand-overs of a run of the machine.
-use Rattle.std.specs.Prelude.{◌≡◌, ℕ, zero, suc, Bool, true, false, map, List, [], ◌∷◌, ◌++◌, Option, Some, None}
+use Rattle.std.specs.Prelude.{◌≡◌, ℕ, zero, suc, ◌+◌, ◌%◌, Bool, true, false, cond, not, ◌&&◌, eqb, map, List, [], ◌∷◌, ◌++◌, Option, Some, None}
+use Rattle.v8m_isa.specs.Table.{Decoded, decode_of, is_narrow}
 use Rattle.ns_types.specs.declared.event.Event.{Event}
 use Rattle.ns_types.specs.declared.event.Event.TheVariants as event
+use Rattle.ns_types.specs.declared.state.Cpu.{Cpu}
 use Rattle.ns_types.specs.declared.turn.Turn.{Turn}
 use Rattle.ns_types.specs.declared.turn.Start.{Start}
 use Rattle.ns_types.specs.State.{State}
+use Rattle.ns_types.specs.Platform.{in_row}
 use Rattle.ns_types.specs.Ram.{ram_at}
+use Rattle.v8m_mem.specs.Rows.{IsStart}
 use Rattle.v8m_core.specs.declared.stepped.Stepped.{Stepped}
 use Rattle.v8m_core.specs.declared.stepped.Stepped.TheVariants as what
-use Rattle.v8m_core.specs.Step.{Done, step_of, turn_of}
+use Rattle.v8m_core.specs.declared.effect.Effect.{Effect}
+use Rattle.v8m_core.specs.declared.effect.Effect.TheVariants as effect
+use Rattle.v8m_core.specs.Values.{difference32}
+use Rattle.v8m_core.specs.Lists.{registers, in_list, next}
+use Rattle.v8m_core.specs.Step.{Done, fetched, effect_of, pushed_sp, step_of, turn_of}
 use Rattle.v8m_core.specs.Reset.{reset_of}
 use Rattle.ns_turns.specs.Run.{event_of, next_of, machine_run}
 
@@ -52,12 +60,36 @@ is_write (what.Wrote at size value) = true
 is_write (what.Given view) = false
 is_write (what.Stopped stop) = false
 
--- The instruction at the program counter tells what it writes into Non-secure RAM: where no event says so it leaves that
--- memory. Words that a push or a Non-secure call stacks there would be written without an event.
+-- An instruction tells what it writes into Non-secure RAM: where no event says so a step leaves that memory.
 abbrev pub Tells : List ℕ → State → Type 0
 Tells rom s = is_write (step_of rom s).what ≡ false → (step_of rom s).state.memory.ns_ram ≡ s.memory.ns_ram
 
--- each instruction of at most n steps from a state does
+-- The words that a push of a list, or a call of Non-secure code, stacks lie outside Non-secure RAM: no event would show
+-- them there.
+abbrev pub none_in_ram : ℕ → List ℕ → ℕ → Bool
+none_in_ram list [] a = true
+none_in_ram list (n ∷ ns) a = cond (in_list list n) (not (in_row 1 a) && none_in_ram list ns (next a)) (none_in_ram list ns a)
+
+abbrev pub stacks_outside : Effect → Cpu → Bool
+stacks_outside (effect.Push list) c = none_in_ram list registers (pushed_sp list c)
+stacks_outside (effect.Blxns v) c =
+    let sp = difference32 c.regs.sp 8 in cond (eqb (v % 2) 0) (not (in_row 1 sp) && not (in_row 1 (next sp))) true
+stacks_outside _ c = true
+
+-- the instruction at the program counter, as a step decodes it
+abbrev pub instr_at : List ℕ → State → Option Decoded
+instr_at rom s =
+    let first = fetched rom s.cpu.pc in
+    cond (is_narrow first) (decode_of first 0) (decode_of first (fetched rom (s.cpu.pc + 2)))
+
+abbrev pub outside_or : Option Decoded → Cpu → Bool
+outside_or None c = true
+outside_or (Some d) c = stacks_outside (effect_of d.instr c) c
+
+abbrev pub StacksOutside : List ℕ → State → Type 0
+StacksOutside rom s = outside_or (instr_at rom s) s.cpu ≡ true
+
+-- each instruction of at most n steps from a state tells what it writes
 unfoldable pub AllTell : List ℕ → ℕ → List Turn → State → Type 0
 AllTell rom zero ts s = Unit {0}
 AllTell rom (suc n) ts s =
@@ -67,3 +99,7 @@ AllTell rom (suc n) ts s =
 pub record KnowsRam (rom : List ℕ) (enters : ℕ → Option ℕ) (start : Start) (ts : List Turn) (n : ℕ) : Type 0 where
   pub events : events_in (machine_moments rom start ts n) ≡ (machine_run rom start ts n).list
   pub ram : (k : ℕ) → given_ram (machine_moments rom start ts n) k ≡ ram_at enters (machine_run rom start ts n).list k ts start.ns_ram
+
+-- so it is in every run
+abbrev pub AlwaysKnowsRam : List ℕ → (ℕ → Option ℕ) → Type 0
+AlwaysKnowsRam rom enters = (start : Start) → IsStart start → (ts : List Turn) (n : ℕ) → KnowsRam rom enters start ts n

@@ -10,7 +10,8 @@ use Rattle.ns_types.specs.declared.event.Bound.{Bound}
 use Rattle.ns_types.specs.declared.turn.Turn.{Turn}
 use Rattle.ns_types.specs.declared.turn.Start.{Start}
 use Rattle.ns_types.specs.CRun.{Run}
-use Rattle.ns_types.specs.Show.{show, events_shown}
+use Rattle.ns_types.specs.Show.{Shown, show, events_shown}
+use Rattle.ns_types.specs.Declares.{Declares, AllHaveFewArguments, DeclaresFront}
 use Rattle.v8m_mem.specs.Rows.{IsStart}
 use Rattle.ns_turns.specs.Run.{machine_run}
 use Rattle.ns_types.specs.Prefix.{IsFront}
@@ -84,3 +85,19 @@ pub record OnlyShows (m : Events) (seen : List Event) (run : Run) : Type 0 where
 abbrev pub Only : List ℕ → (ℕ → Option ℕ) → (Start → List Turn → Bound → Run) → Type 0
 Only rom enters run =
     (start : Start) → IsStart start → (ts : List Turn) (n : ℕ) → (b : Bound) × OnlyShows (machine_run rom start ts n) (seen_of enters (run start ts b)) (run start ts b)
+
+-- The same where the events only declare what the program declares: places, results, arguments, writes and stops.
+pub record OnlyDeclares (m : Events) (shown : List Shown) (run : Run) : Type 0 where
+  pub before : List Event
+  pub list : (m.list ≡ before) ⊎ ((m.list ≡ before ++ event.Stopped StackLimit ∷ []) × (room < run.peak))
+  pub front : DeclaresFront before shown
+  pub clean : is_clean before ≡ true
+  pub waits : m.end ≡ end.Waiting → (run.end ≡ end.Waiting) × Declares m.list shown
+
+abbrev pub OnlyDeclared : List ℕ → (ℕ → Option ℕ) → (Start → List Turn → Bound → Run) → Type 0
+OnlyDeclared rom enters run =
+    (start : Start) → IsStart start → (ts : List Turn) (n : ℕ) → (b : Bound) × OnlyDeclares (machine_run rom start ts n) (show enters (run start ts b).list) (run start ts b)
+
+-- each call of the program has at most four arguments
+abbrev pub CallsFew : (Start → List Turn → Bound → Run) → Type 0
+CallsFew run = (start : Start) (ts : List Turn) (b : Bound) → AllHaveFewArguments (run start ts b).list

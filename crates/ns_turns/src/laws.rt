@@ -14,16 +14,16 @@ ghost use Rattle.v8m_core.specs.Step.{step_of, turn_of};
 ghost use Rattle.v8m_core.specs.Reset.{reset_of};
 ghost use Rattle.ns_turns.specs.Run.{after, ends, run_of, machine_run};
 ghost use Rattle.ns_turns.specs.GoesOn.{GoesOn};
-ghost use Rattle.ns_turns.specs.Moments.{Tells, AllTell, KnowsRam};
-ghost use Rattle.ns_turns.specs.Refines.{Refines};
+ghost use Rattle.ns_turns.specs.Moments.{Tells, StacksOutside, AllTell, KnowsRam};
+ghost use Rattle.ns_turns.specs.Refines.{Refines, Only, OnlyDeclared, CallsFew};
 ghost use Rattle.ns_turns.specs.TwoWorlds.{TwoWorlds, TellsAll};
 
 /// At each hand-over of a run whose instructions tell what they write, Non-secure RAM is what the start, the turns and
-/// the events before make of it, wherever in Secure memory the entries stand. All instructions of the table do.
+/// the events before make of it, wherever in Secure memory the entries stand. An instruction tells them where it stacks no
+/// word in that memory.
 pub fn handed_ram()
     ensures ram { (rom : List ℕ) (enters : ℕ → Option ℕ) → AreSecure enters → (start : Start) (ts : List Turn) (n : ℕ) → AllTell rom n ts (reset_of rom start) → KnowsRam rom enters start ts n }
-    ensures tells { (rom : List ℕ) (s : State) → s.cpu.side ≡ sides.Secure → Tells rom s }
-    ensures all_tell { (rom : List ℕ) (n : ℕ) (ts : List Turn) (s : State) → AllTell rom n ts s }
+    ensures tells { (rom : List ℕ) (s : State) → s.cpu.side ≡ sides.Secure → StacksOutside rom s → Tells rom s }
 {}
 
 /// Where the machine does what a program does, and what the caller sees of the program follows from its events, two
@@ -43,4 +43,9 @@ pub fn driven()
 /// More steps only add events, and a run that is over stays so.
 pub fn more_steps()
     ensures { (rom : List ℕ) (start : Start) (ts : List Turn) (n m : ℕ) → n ≤ m → GoesOn (machine_run rom start ts n) (machine_run rom start ts m) }
+{}
+
+/// A machine that shows exactly what a program shows declares what the program declares.
+pub fn declared()
+    ensures { (rom : List ℕ) (enters : ℕ → Option ℕ) (run : Start → List Turn → Bound → Run) → Only rom enters run → CallsFew run → OnlyDeclared rom enters run }
 {}

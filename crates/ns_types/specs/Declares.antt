@@ -1,11 +1,12 @@
 -- Events of the machine that agree with those of a program wherever the program declares something.
-use Rattle.std.specs.Prelude.{◌≡◌, ◌≤◌, List, [], ◌∷◌, take, length, slice_index}
+use Rattle.std.specs.Prelude.{◌≡◌, ℕ, ◌≤◌, List, [], ◌∷◌, take, length, slice_index}
 use Rattle.ns_types.specs.declared.event.Event.{Event}
 use Rattle.ns_types.specs.declared.event.Event.TheVariants as event
 use Rattle.ns_types.specs.declared.event.CEvent.{CEvent}
 use Rattle.ns_types.specs.declared.event.CEvent.TheVariants as c
 use Rattle.ns_types.specs.declared.turn.View.{View}
-use Rattle.ns_types.specs.CRun.{Marked}
+use Rattle.ns_types.specs.CRun.{Marked, World, Outcome}
+use Rattle.ns_types.specs.Bounds.{world_of}
 use Rattle.ns_types.specs.Show.{Shown}
 use Rattle.ns_types.specs.Prefix.{IsFront}
 
@@ -49,3 +50,7 @@ pub record DeclaresFront (events : List Event) (shown : List Shown) : Type 0 whe
   pub part : List Shown
   pub front : IsFront part shown
   pub declares : Declares events part
+
+-- bodies of entries keep to that
+pub record KeepFew (enter : ℕ → List ℕ → World → Outcome) : Type 0 where
+  pub by : (e : ℕ) (args : List ℕ) (w : World) → AllHaveFewArguments w.events → AllHaveFewArguments (world_of (enter e args w)).events

@@ -13,7 +13,7 @@ ghost use Rattle.ns_types.specs.CRun.{Marked, World, Outcome, c_run, run_of};
 ghost use Rattle.ns_types.specs.Bounds.{Meaning, IsWithin, GoesFurther, Extends};
 ghost use Rattle.ns_types.specs.Show.{show, events_shown};
 ghost use Rattle.ns_types.specs.Marks.{Tracker, first_tracker, events_of, IsTold, AreTracked};
-ghost use Rattle.ns_types.specs.Declares.{AllHaveFewArguments, DeclaresFront};
+ghost use Rattle.ns_types.specs.Declares.{AllHaveFewArguments, DeclaresFront, KeepFew};
 
 /// All bytes of a range lie in a row exactly where its first and its last one do.
 pub fn whole_range()
@@ -36,7 +36,10 @@ pub fn marks_follow()
         → take n (events_of a) ≡ take n (events_of b) → show enters (take n a) ≡ show enters (take n b) }
 {}
 
-/// Events that are exactly the first ones that a run shows declare what the program declares.
+/// Events that are exactly the first ones that a run shows declare what the program declares, where each of its calls
+/// has at most four arguments; so it is in a run where bodies of entries keep to that.
 pub fn declared()
-    ensures { (enters : ℕ → Option ℕ) (ms : List Marked) (events : List Event) → AllHaveFewArguments ms → IsFront events (events_shown (show enters ms)) → DeclaresFront events (show enters ms) }
+    ensures front { (enters : ℕ → Option ℕ) (ms : List Marked) (events : List Event) → AllHaveFewArguments ms → IsFront events (events_shown (show enters ms)) → DeclaresFront events (show enters ms) }
+    ensures few { (enters : ℕ → Option ℕ) (enter : ℕ → List ℕ → World → Outcome) → KeepFew enter → (turns : ℕ) (start : Start) (memory : Memory) (ts : List Turn)
+        → AllHaveFewArguments (run_of (c_run enters enter turns start memory ts)).list }
 {}

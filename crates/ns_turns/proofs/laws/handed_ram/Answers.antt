@@ -1,12 +1,9 @@
 use Rattle.ns_turns.proofs.Tell.{tells}
-use Rattle.ns_turns.proofs.RamLaws.{all_tell, knows_ram}
+use Rattle.ns_turns.proofs.RamLaws.{knows_ram}
 use Rattle.ns_turns.proofs.laws.handed_ram.Goals as goal
 
 pub returns-clause-ram : goal.returns-clause-ram
 returns-clause-ram c rom enters secure start ts n tell = knows_ram rom enters secure start ts n tell
 
 pub returns-clause-tells : goal.returns-clause-tells
-returns-clause-tells c rom s side = tells rom s side
-
-pub returns-clause-all_tell : goal.returns-clause-all_tell
-returns-clause-all_tell c rom n ts s = all_tell rom n ts s
+returns-clause-tells c rom s side outside = tells rom s side outside
