@@ -1,2 +1,3 @@
-pub mod Levels
+pub mod LevelLaws
 pub mod Chains
+pub mod AnswerLaws

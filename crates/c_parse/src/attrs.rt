@@ -47,7 +47,7 @@ fn one_item<'a>(alloc: Global, names: &[Text], so_far: List<One>, ts: &'a [Token
 }
 
 /// { "," one }
-#[tactic(auto, using(crate::proofs::Levels::repeat_rules), unfolding(c_grammar::specs::Reading::read_more_ones))]
+#[tactic(auto, using(crate::proofs::LevelLaws::repeat_rules), unfolding(c_grammar::specs::Reading::read_more_ones))]
 fn more_ones<'a>(alloc: Global, names: &[Text], so_far: List<One>, ts: &'a [Token]) -> Read<'a, List<One>>
     ensures { Gives (λ x. (x.0, x.1.now)) result (spec.read_more_ones names.now so_far ts.now) }
 {
@@ -91,7 +91,7 @@ fn attr_item<'a>(alloc: Global, names: &[Text], so_far: List<Attr>, ts: &'a [Tok
 }
 
 /// { attr }
-#[tactic(auto, using(crate::proofs::Levels::repeat_rules), unfolding(c_grammar::specs::Reading::read_attrs))]
+#[tactic(auto, using(crate::proofs::LevelLaws::repeat_rules), unfolding(c_grammar::specs::Reading::read_attrs))]
 pub fn attrs<'a>(alloc: Global, names: &[Text], so_far: List<Attr>, ts: &'a [Token]) -> Read<'a, List<Attr>>
     ensures { Gives (λ x. (x.0, x.1.now)) result (spec.read_attrs names.now so_far ts.now) }
 {
@@ -120,7 +120,7 @@ fn lead_item<'a>(alloc: Global, names: &[Text], so_far: List<Star>, ts: &'a [Tok
 }
 
 /// { attr }, before the first "*".
-#[tactic(auto, using(crate::proofs::Levels::repeat_rules), unfolding(c_grammar::specs::Reading::read_lead_attrs))]
+#[tactic(auto, using(crate::proofs::LevelLaws::repeat_rules), unfolding(c_grammar::specs::Reading::read_lead_attrs))]
 fn lead_attrs<'a>(alloc: Global, names: &[Text], so_far: List<Star>, ts: &'a [Token]) -> Read<'a, List<Star>>
     ensures { Gives (λ x. (x.0, x.1.now)) result (spec.read_lead_attrs names.now so_far ts.now) }
 {
@@ -170,7 +170,7 @@ fn star_item<'a>(alloc: Global, names: &[Text], so_far: List<Star>, ts: &'a [Tok
 }
 
 /// { "*" | "const" | "volatile" | attr }
-#[tactic(auto, using(crate::proofs::Levels::repeat_rules), unfolding(c_grammar::specs::Reading::read_more_stars))]
+#[tactic(auto, using(crate::proofs::LevelLaws::repeat_rules), unfolding(c_grammar::specs::Reading::read_more_stars))]
 fn more_stars<'a>(alloc: Global, names: &[Text], so_far: List<Star>, ts: &'a [Token]) -> Read<'a, List<Star>>
     ensures { Gives (λ x. (x.0, x.1.now)) result (spec.read_more_stars names.now so_far ts.now) }
 {

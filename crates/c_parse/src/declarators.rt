@@ -18,7 +18,7 @@ use std::alloc::Global;
 
 /// declarator = stars ( NAME | "(" declarator ")" ) { suffix }
 #[cycle(syntax)]
-#[tactic(auto, using(crate::proofs::Levels::level_rules), unfolding(c_grammar::specs::Reading::read_declarator))]
+#[tactic(auto, using(crate::proofs::LevelLaws::level_rules), unfolding(c_grammar::specs::Reading::read_declarator))]
 pub fn declarator<'a>(alloc: Global, names: &[Text], left: usize, ts: &'a [Token]) -> Read<'a, Declarator>
     ensures { Gives (λ x. (x.0, x.1.now)) result ((spec.levels names.now left).declarator ts.now) }
 {
@@ -71,7 +71,7 @@ fn suffix_item<'a>(alloc: Global, names: &[Text], left: usize, so_far: List<Suff
 
 /// { suffix }
 #[cycle(syntax)]
-#[tactic(auto, using(crate::proofs::Levels::repeat_rules), unfolding(c_grammar::specs::Reading::read_suffixes))]
+#[tactic(auto, using(crate::proofs::LevelLaws::repeat_rules), unfolding(c_grammar::specs::Reading::read_suffixes))]
 fn suffixes<'a>(alloc: Global, names: &[Text], left: usize, so_far: List<Suffix>, ts: &'a [Token]) -> Read<'a, List<Suffix>>
     ensures { Gives (λ x. (x.0, x.1.now)) result (spec.read_suffixes names.now (spec.levels names.now left) so_far ts.now) }
 {
@@ -179,7 +179,7 @@ fn param_item<'a>(alloc: Global, names: &[Text], left: usize, so_far: List<Param
 
 /// { "," param }
 #[cycle(syntax)]
-#[tactic(auto, using(crate::proofs::Levels::repeat_rules), unfolding(c_grammar::specs::Reading::read_more_params))]
+#[tactic(auto, using(crate::proofs::LevelLaws::repeat_rules), unfolding(c_grammar::specs::Reading::read_more_params))]
 fn more_params<'a>(alloc: Global, names: &[Text], left: usize, so_far: List<Param>, ts: &'a [Token]) -> Read<'a, List<Param>>
     ensures { Gives (λ x. (x.0, x.1.now)) result (spec.read_more_params names.now (spec.levels names.now left) so_far ts.now) }
 {
@@ -209,7 +209,7 @@ fn param<'a>(alloc: Global, names: &[Text], left: usize, ts: &'a [Token]) -> Rea
 
 /// declarator | abstract
 #[cycle(syntax)]
-#[tactic(auto, using(crate::proofs::Levels::level_rules), unfolding(c_grammar::specs::Reading::read_either))]
+#[tactic(auto, using(crate::proofs::LevelLaws::level_rules), unfolding(c_grammar::specs::Reading::read_either))]
 fn either<'a>(alloc: Global, names: &[Text], left: usize, ts: &'a [Token]) -> Read<'a, Either>
     ensures { Gives (λ x. (x.0, x.1.now)) result ((spec.levels names.now left).either ts.now) }
 {
@@ -288,7 +288,7 @@ fn bare_either<'a>(alloc: Global, names: &[Text], left: usize, before: List<Star
 
 /// abstract = stars [ "(" abstract ")" ] { suffix }
 #[cycle(syntax)]
-#[tactic(auto, using(crate::proofs::Levels::level_rules), unfolding(c_grammar::specs::Reading::read_nameless))]
+#[tactic(auto, using(crate::proofs::LevelLaws::level_rules), unfolding(c_grammar::specs::Reading::read_nameless))]
 pub fn nameless<'a>(alloc: Global, names: &[Text], left: usize, ts: &'a [Token]) -> Read<'a, Abstract>
     ensures { Gives (λ x. (x.0, x.1.now)) result ((spec.levels names.now left).nameless ts.now) }
 {

@@ -18,7 +18,7 @@ use std::alloc::Global;
 
 /// initial = assign | "{" initial { "," initial } [ "," ] "}"
 #[cycle(initials)]
-#[tactic(auto, using(crate::proofs::Levels::level_rules), unfolding(c_grammar::specs::Reading::read_initial))]
+#[tactic(auto, using(crate::proofs::LevelLaws::level_rules), unfolding(c_grammar::specs::Reading::read_initial))]
 pub fn initial<'a>(alloc: Global, names: &[Text], left: usize, ts: &'a [Token]) -> Read<'a, Initial>
     ensures { Gives (λ x. (x.0, x.1.now)) result ((spec.levels names.now left).initials ts.now) }
 {
@@ -62,7 +62,7 @@ fn initial_item<'a>(alloc: Global, names: &[Text], left: usize, so_far: List<Ini
 
 /// { "," initial }
 #[cycle(initials)]
-#[tactic(auto, using(crate::proofs::Levels::repeat_rules), unfolding(c_grammar::specs::Reading::read_more_initials))]
+#[tactic(auto, using(crate::proofs::LevelLaws::repeat_rules), unfolding(c_grammar::specs::Reading::read_more_initials))]
 fn more_initials<'a>(alloc: Global, names: &[Text], left: usize, so_far: List<Initial>, ts: &'a [Token]) -> Read<'a, List<Initial>>
     ensures { Gives (λ x. (x.0, x.1.now)) result (spec.read_more_initials names.now (spec.levels names.now left) so_far ts.now) }
 {
@@ -115,7 +115,7 @@ fn init_item<'a>(alloc: Global, names: &[Text], left: usize, so_far: List<Init>,
 }
 
 /// { "," init }
-#[tactic(auto, using(crate::proofs::Levels::repeat_rules), unfolding(c_grammar::specs::Reading::read_more_inits))]
+#[tactic(auto, using(crate::proofs::LevelLaws::repeat_rules), unfolding(c_grammar::specs::Reading::read_more_inits))]
 pub fn more_inits<'a>(alloc: Global, names: &[Text], left: usize, so_far: List<Init>, ts: &'a [Token]) -> Read<'a, List<Init>>
     ensures { Gives (λ x. (x.0, x.1.now)) result (spec.read_more_inits names.now (spec.levels names.now left) so_far ts.now) }
 {

@@ -41,7 +41,7 @@ fn expr_item<'a>(alloc: Global, names: &[Text], left: usize, so_far: List<Expr>,
 
 /// { "," assign }
 #[cycle(syntax)]
-#[tactic(auto, using(crate::proofs::Levels::repeat_rules), unfolding(c_grammar::specs::Reading::read_more_exprs))]
+#[tactic(auto, using(crate::proofs::LevelLaws::repeat_rules), unfolding(c_grammar::specs::Reading::read_more_exprs))]
 fn more_exprs<'a>(alloc: Global, names: &[Text], left: usize, so_far: List<Expr>, ts: &'a [Token]) -> Read<'a, List<Expr>>
     ensures { Gives (λ x. (x.0, x.1.now)) result (spec.read_more_exprs names.now (spec.levels names.now left) so_far ts.now) }
 {
@@ -60,7 +60,7 @@ fn more_exprs<'a>(alloc: Global, names: &[Text], left: usize, so_far: List<Expr>
 
 /// assign = cond [ aop assign ]
 #[cycle(syntax)]
-#[tactic(auto, using(crate::proofs::Levels::level_rules), unfolding(c_grammar::specs::Reading::read_assign))]
+#[tactic(auto, using(crate::proofs::LevelLaws::level_rules), unfolding(c_grammar::specs::Reading::read_assign))]
 pub fn assign<'a>(alloc: Global, names: &[Text], left: usize, ts: &'a [Token]) -> Read<'a, Expr>
     ensures { Gives (λ x. (x.0, x.1.now)) result ((spec.levels names.now left).assign ts.now) }
 {
@@ -88,7 +88,7 @@ fn assigned<'a>(alloc: Global, names: &[Text], left: usize, to: Expr, ts: &'a [T
 
 /// cond = binary [ "?" expr ":" cond ]
 #[cycle(syntax)]
-#[tactic(auto, using(crate::proofs::Levels::level_rules), unfolding(c_grammar::specs::Reading::read_cond))]
+#[tactic(auto, using(crate::proofs::LevelLaws::level_rules), unfolding(c_grammar::specs::Reading::read_cond))]
 pub fn cond<'a>(alloc: Global, names: &[Text], left: usize, ts: &'a [Token]) -> Read<'a, Expr>
     ensures { Gives (λ x. (x.0, x.1.now)) result ((spec.levels names.now left).cond ts.now) }
 {
@@ -132,7 +132,7 @@ fn op_item<'a>(alloc: Global, names: &[Text], left: usize, level: usize, so_far:
 
 /// { operator operand }, the operators being of this level.
 #[cycle(syntax)]
-#[tactic(auto, using(crate::proofs::Levels::repeat_rules), unfolding(c_grammar::specs::Reading::read_more_ops))]
+#[tactic(auto, using(crate::proofs::LevelLaws::repeat_rules), unfolding(c_grammar::specs::Reading::read_more_ops))]
 fn more_ops<'a>(alloc: Global, names: &[Text], left: usize, level: usize, so_far: List<Link>, ts: &'a [Token]) -> Read<'a, List<Link>>
     requires { level ≤ 10 }
     ensures { Gives (λ x. (x.0, x.1.now)) result (spec.read_more_ops (spec.read_binary (spec.levels names.now left) level) level so_far ts.now) }
@@ -153,7 +153,7 @@ fn more_ops<'a>(alloc: Global, names: &[Text], left: usize, level: usize, so_far
 /// binary: operands joined by left-associative operators; at level 0 a cast, and above it binaries of the level below,
 /// joined by `* / %` at level 1, and so on up to `||` at level 10.
 #[cycle(syntax)]
-#[tactic(auto, using(crate::proofs::Levels::level_rules), unfolding(c_grammar::specs::Reading::read_binary))]
+#[tactic(auto, using(crate::proofs::LevelLaws::level_rules), unfolding(c_grammar::specs::Reading::read_binary))]
 fn binary<'a>(alloc: Global, names: &[Text], left: usize, level: usize, ts: &'a [Token]) -> Read<'a, Expr>
     requires { level ≤ 10 }
     ensures { Gives (λ x. (x.0, x.1.now)) result (spec.read_binary (spec.levels names.now left) level ts.now) }
@@ -169,7 +169,7 @@ fn binary<'a>(alloc: Global, names: &[Text], left: usize, level: usize, ts: &'a 
 
 /// cast = "(" typename ")" cast | unary
 #[cycle(syntax)]
-#[tactic(auto, using(crate::proofs::Levels::level_rules), unfolding(c_grammar::specs::Reading::read_cast))]
+#[tactic(auto, using(crate::proofs::LevelLaws::level_rules), unfolding(c_grammar::specs::Reading::read_cast))]
 fn cast<'a>(alloc: Global, names: &[Text], left: usize, ts: &'a [Token]) -> Read<'a, Expr>
     ensures { Gives (λ x. (x.0, x.1.now)) result ((spec.levels names.now left).cast ts.now) }
 {
@@ -225,7 +225,7 @@ fn prefixed<'a>(alloc: Global, names: &[Text], left: usize, ts: &'a [Token]) -> 
 
 /// ( "++" | "--" ) unary | "sizeof" ( unary | "(" typename ")" )
 #[cycle(syntax)]
-#[tactic(auto, using(crate::proofs::Levels::level_rules), unfolding(c_grammar::specs::Reading::read_stepped))]
+#[tactic(auto, using(crate::proofs::LevelLaws::level_rules), unfolding(c_grammar::specs::Reading::read_stepped))]
 fn stepped<'a>(alloc: Global, names: &[Text], left: usize, ts: &'a [Token]) -> Read<'a, Expr>
     ensures { Gives (λ x. (x.0, x.1.now)) result ((spec.levels names.now left).stepped ts.now) }
 {
@@ -310,7 +310,7 @@ fn access_item<'a>(alloc: Global, names: &[Text], left: usize, so_far: List<Acce
 
 /// { "[" expr "]" | "(" [ assign { "," assign } ] ")" | "." NAME | "->" NAME | "++" | "--" }
 #[cycle(syntax)]
-#[tactic(auto, using(crate::proofs::Levels::repeat_rules), unfolding(c_grammar::specs::Reading::read_accesses))]
+#[tactic(auto, using(crate::proofs::LevelLaws::repeat_rules), unfolding(c_grammar::specs::Reading::read_accesses))]
 fn accesses<'a>(alloc: Global, names: &[Text], left: usize, so_far: List<Access>, ts: &'a [Token]) -> Read<'a, List<Access>>
     ensures { Gives (λ x. (x.0, x.1.now)) result (spec.read_accesses names.now (spec.levels names.now left) so_far ts.now) }
 {

@@ -15,3 +15,6 @@ mod types;
 mod units;
 
 pub use parser::{MAX_NESTING, SyntaxFault, parse};
+
+#[cfg(test)]
+mod tests;

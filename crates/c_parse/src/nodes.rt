@@ -171,22 +171,31 @@ pub fn param_of(specs: List<Spec>, found: Either) -> Param
 pub struct Half {
     pub place: Place,
     pub test: Expr,
-    pub holds: Stmt,
+    pub holds: Boxed<Stmt>,
 }
 
-pub fn without_else(alloc: Global, half: Half) -> Result<Stmt, AllocError>
-    ensures { IfOk result (λ s. s ≡ stmts.If half.place half.test half.holds None) }
+pub fn half_of(alloc: Global, place: Place, test: Expr, holds: Stmt) -> Result<Half, AllocError>
+    ensures { IfOk result (λ half. half ≡ record { place = place; test = test; holds = holds }) }
+{
+    Ok(Half {
+        place,
+        test,
+        holds: Boxed::new(alloc, holds)?,
+    })
+}
+
+pub fn without_else(half: Half) -> Stmt
+    ensures { result ≡ stmts.If half.place half.test half.holds None }
 {
     let Half { place, test, holds } = half;
-    Ok(Stmt::If(place, test, Boxed::new(alloc, holds)?, None))
+    Stmt::If(place, test, holds, None)
 }
 
 pub fn with_else(alloc: Global, half: Half, fails: Stmt) -> Result<Stmt, AllocError>
     ensures { IfOk result (λ s. s ≡ stmts.If half.place half.test half.holds (Some fails)) }
 {
-    let Half { place, test, holds } = half;
-    let holds = Boxed::new(alloc, holds)?;
     let fails = Boxed::new(alloc, fails)?;
+    let Half { place, test, holds } = half;
     Ok(Stmt::If(place, test, holds, Some(fails)))
 }
 

@@ -1,10 +1,12 @@
 //! The parser.
 
-ghost use Rattle.c_grammar.specs.Tokens.{◌>>=◌};
-ghost use Rattle.c_parse.specs.Answer.{Answers, place_left, whole};
+ghost use Rattle.std.specs.Prelude.{◌≡◌, IfOk};
+ghost use Rattle.c_grammar.specs.Units.{Derives};
+ghost use Rattle.c_parse.specs.Answer.{Answers, place_left, read_whole, told_error};
 
 use crate::units::unit;
 use c_ast::Unit;
+use c_grammar::laws::sound_law;
 use c_grammar::tokens::{Fault, ParseError, fault_at};
 use c_lex::token::Token;
 use cm_base::Place;
@@ -41,7 +43,9 @@ fn place_of(tokens: &[Token], left: usize) -> Place
     }
 }
 
+/// Why no unit was read, with its place.
 fn fault_of(tokens: &[Token], error: ParseError) -> SyntaxFault
+    ensures { result ≡ told_error tokens.now error }
 {
     match error {
         ParseError::Memory => SyntaxFault::NoMemory,
@@ -56,8 +60,9 @@ fn fault_of(tokens: &[Token], error: ParseError) -> SyntaxFault
     }
 }
 
-/// The unit that the tokens derive, or the first fault.
-pub fn parse(alloc: Global, tokens: &[Token]) -> Result<Unit, SyntaxFault>
+/// The unit that the tokens read as, or the fault of their reading.
+fn whole(alloc: Global, tokens: &[Token]) -> Result<Unit, SyntaxFault>
+    ensures { Answers tokens.now result (read_whole tokens.now) }
 {
     match unit(alloc, MAX_NESTING, tokens) {
         Err(error) => Err(fault_of(tokens, error)),
@@ -68,4 +73,15 @@ pub fn parse(alloc: Global, tokens: &[Token]) -> Result<Unit, SyntaxFault>
             Err(fault_of(tokens, fault_at(rest)))
         }
     }
+}
+
+/// The unit that the tokens derive, or the first fault.
+pub fn parse(alloc: Global, tokens: &[Token]) -> Result<Unit, SyntaxFault>
+    // What is answered is what the tokens read as, or the fault of their reading, unless memory runs out.
+    ensures reads { Answers tokens.now result (read_whole tokens.now) }
+    // A unit that is answered derives.
+    ensures found { IfOk result (λ unit. Derives tokens.now unit.parts) }
+{
+    sound_law();
+    whole(alloc, tokens)
 }

@@ -1,18 +1,13 @@
 //! Statements.
 
-ghost use Rattle.std.specs.Prelude.{Ok, None, if◌then◌else◌};
-ghost use Rattle.c_lex.specs.declared.token.Keyword.TheVariants as word;
-ghost use Rattle.c_lex.specs.declared.token.Punct.TheVariants as mark;
-ghost use Rattle.c_grammar.specs.declared.tokens.Sign.TheVariants.{Word, Mark};
-ghost use Rattle.c_ast.specs.declared.stmt.Stmt.TheVariants as made;
-ghost use Rattle.c_grammar.specs.Tokens.{Gives, ◌>>=◌};
-ghost use Rattle.c_grammar.specs.Tokens as front;
+ghost use Rattle.c_grammar.specs.Tokens.{Gives};
 ghost use Rattle.c_grammar.specs.Reading as spec;
+ghost use Rattle.c_parse.specs.Parts as parts_of;
 
 use crate::decls::decl;
 use crate::exprs::{cond, expr};
 use crate::levels::{deep_if, in_braces};
-use crate::nodes::{Half, Turns, do_loop, for_loop, while_loop, with_else, without_else};
+use crate::nodes::{Half, Turns, do_loop, for_loop, half_of, while_loop, with_else, without_else};
 use c_ast::{Block, Expr, First, Item, Label, Part, Stmt};
 use c_grammar::begins::{begins_expr, begins_label, begins_spec, begins_stmt};
 use c_grammar::tokens::{Read, Sign, expect, next_is};
@@ -96,7 +91,7 @@ fn item_item<'a>(alloc: Global, names: &[Text], left: usize, so_far: List<Item>,
 
 /// { decl | stmt }
 #[cycle(stmts)]
-#[tactic(auto, using(crate::proofs::Levels::repeat_rules), unfolding(c_grammar::specs::Reading::read_items))]
+#[tactic(auto, using(crate::proofs::LevelLaws::repeat_rules), unfolding(c_grammar::specs::Reading::read_items))]
 fn items<'a>(alloc: Global, names: &[Text], left: usize, so_far: List<Item>, ts: &'a [Token]) -> Read<'a, List<Item>>
     ensures { Gives (λ x. (x.0, x.1.now)) result (spec.read_items names.now (spec.levels names.now left) so_far ts.now) }
 {
@@ -133,7 +128,7 @@ fn item<'a>(alloc: Global, names: &[Text], left: usize, ts: &'a [Token]) -> Read
 /// | "for" "(" ( decl | [ expr ] ";" ) [ expr ] ";" [ expr ] ")" stmt
 /// | "switch" "(" expr ")" "{" { label | decl | stmt } "}"
 #[cycle(stmts)]
-#[tactic(auto, using(crate::proofs::Levels::level_rules))]
+#[tactic(auto, using(crate::proofs::LevelLaws::level_rules))]
 fn stmt<'a>(alloc: Global, names: &[Text], left: usize, ts: &'a [Token]) -> Read<'a, Stmt>
     ensures { Gives (λ x. (x.0, x.1.now)) result ((spec.levels names.now left).stmts ts.now) }
 {
@@ -187,7 +182,7 @@ fn stmt_below<'a>(alloc: Global, names: &[Text], left: usize, ts: &'a [Token]) -
 
 /// "break" ";"
 fn break_stmt<'a>(ts: &'a [Token]) -> Read<'a, Stmt>
-    ensures { Gives (λ x. (x.0, x.1.now)) result (front.expect (Word word.Break) ts.now >>= (λ p. front.expect (Mark mark.Semicolon) p.1 >>= (λ c. Ok (made.Break p.0, c.1)))) }
+    ensures { Gives (λ x. (x.0, x.1.now)) result (parts_of.read_break ts.now) }
 {
     let (place, rest) = expect(ts, Sign::Word(Keyword::Break))?;
     let (_end, rest) = expect(rest, Sign::Mark(Punct::Semicolon))?;
@@ -196,7 +191,7 @@ fn break_stmt<'a>(ts: &'a [Token]) -> Read<'a, Stmt>
 
 /// "continue" ";"
 fn continue_stmt<'a>(ts: &'a [Token]) -> Read<'a, Stmt>
-    ensures { Gives (λ x. (x.0, x.1.now)) result (front.expect (Word word.Continue) ts.now >>= (λ p. front.expect (Mark mark.Semicolon) p.1 >>= (λ c. Ok (made.Continue p.0, c.1)))) }
+    ensures { Gives (λ x. (x.0, x.1.now)) result (parts_of.read_continue ts.now) }
 {
     let (place, rest) = expect(ts, Sign::Word(Keyword::Continue))?;
     let (_end, rest) = expect(rest, Sign::Mark(Punct::Semicolon))?;
@@ -205,7 +200,7 @@ fn continue_stmt<'a>(ts: &'a [Token]) -> Read<'a, Stmt>
 
 /// expr ";"
 fn expr_stmt<'a>(alloc: Global, names: &[Text], left: usize, ts: &'a [Token]) -> Read<'a, Stmt>
-    ensures { Gives (λ x. (x.0, x.1.now)) result (spec.read_expr names.now (spec.levels names.now left) ts.now >>= (λ e. front.expect (Mark mark.Semicolon) e.1 >>= (λ c. Ok (made.Expr e.0, c.1)))) }
+    ensures { Gives (λ x. (x.0, x.1.now)) result (parts_of.read_expr_stmt names.now (spec.levels names.now left) ts.now) }
 {
     let (found, rest) = expr(alloc, names, left, ts)?;
     let (_end, rest) = expect(rest, Sign::Mark(Punct::Semicolon))?;
@@ -234,18 +229,19 @@ fn if_stmt<'a>(alloc: Global, names: &[Text], left: usize, ts: &'a [Token]) -> R
     let (test, rest) = expr(alloc, names, left, rest)?;
     let (_close, rest) = expect(rest, Sign::Mark(Punct::ParenClose))?;
     let (holds, rest) = stmt(alloc, names, left, rest)?;
-    opt_else(alloc, names, left, Half { place, test, holds }, rest)
+    let half = half_of(alloc, place, test, holds)?;
+    opt_else(alloc, names, left, half, rest)
 }
 
 /// [ "else" stmt ], after the rest of its `if`.
 #[cycle(stmts)]
 fn opt_else<'a>(alloc: Global, names: &[Text], left: usize, half: Half, ts: &'a [Token]) -> Read<'a, Stmt>
-    ensures { Gives (λ x. (x.0, x.1.now)) result (if front.next_is (Word word.Else) ts.now then spec.read_if_else names.now (spec.levels names.now left) half.place half.test half.holds ts.now else Ok (made.If half.place half.test half.holds None, ts.now)) }
+    ensures { Gives (λ x. (x.0, x.1.now)) result (parts_of.read_opt_else names.now (spec.levels names.now left) half.place half.test half.holds ts.now) }
 {
     if next_is(ts, Sign::Word(Keyword::Else)) {
         return if_else(alloc, names, left, half, ts);
     }
-    Ok((without_else(alloc, half)?, ts))
+    Ok((without_else(half), ts))
 }
 
 /// "else" stmt, after the rest of its `if`.
@@ -286,7 +282,7 @@ fn do_stmt<'a>(alloc: Global, names: &[Text], left: usize, ts: &'a [Token]) -> R
 
 /// "while" "(" expr ")" ";", after "do" stmt.
 fn do_end<'a>(alloc: Global, names: &[Text], left: usize, place: Place, body: Stmt, ts: &'a [Token]) -> Read<'a, Stmt>
-    ensures { Gives (λ x. (x.0, x.1.now)) result (front.expect (Word word.While) ts.now >>= (λ w. front.expect (Mark mark.ParenOpen) w.1 >>= (λ o. spec.read_expr names.now (spec.levels names.now left) o.1 >>= (λ e. front.expect (Mark mark.ParenClose) e.1 >>= (λ c. front.expect (Mark mark.Semicolon) c.1 >>= (λ c2. Ok (made.DoWhile place body e.0, c2.1))))))) }
+    ensures { Gives (λ x. (x.0, x.1.now)) result (parts_of.read_do_end names.now (spec.levels names.now left) place body ts.now) }
 {
     let (_while, rest) = expect(ts, Sign::Word(Keyword::While))?;
     let (_open, rest) = expect(rest, Sign::Mark(Punct::ParenOpen))?;
@@ -314,7 +310,7 @@ fn for_stmt<'a>(alloc: Global, names: &[Text], left: usize, ts: &'a [Token]) -> 
 /// ")" stmt, after what rules its turns.
 #[cycle(stmts)]
 fn for_body<'a>(alloc: Global, names: &[Text], left: usize, turns: Turns, ts: &'a [Token]) -> Read<'a, Stmt>
-    ensures { Gives (λ x. (x.0, x.1.now)) result (front.expect (Mark mark.ParenClose) ts.now >>= (λ c. (spec.levels names.now left).stmts c.1 >>= (λ a. Ok (made.For turns.place turns.first turns.test turns.next a.0, a.1)))) }
+    ensures { Gives (λ x. (x.0, x.1.now)) result (parts_of.read_for_body (spec.levels names.now left) turns.place turns.first turns.test turns.next ts.now) }
 {
     let (_close, rest) = expect(ts, Sign::Mark(Punct::ParenClose))?;
     let (body, rest) = stmt(alloc, names, left, rest)?;
@@ -351,7 +347,7 @@ fn part_item<'a>(alloc: Global, names: &[Text], left: usize, so_far: List<Part>,
 
 /// { label | decl | stmt }
 #[cycle(stmts)]
-#[tactic(auto, using(crate::proofs::Levels::repeat_rules), unfolding(c_grammar::specs::Reading::read_parts))]
+#[tactic(auto, using(crate::proofs::LevelLaws::repeat_rules), unfolding(c_grammar::specs::Reading::read_parts))]
 fn parts<'a>(alloc: Global, names: &[Text], left: usize, so_far: List<Part>, ts: &'a [Token]) -> Read<'a, List<Part>>
     ensures { Gives (λ x. (x.0, x.1.now)) result (spec.read_parts names.now (spec.levels names.now left) so_far ts.now) }
 {

@@ -51,7 +51,7 @@ fn spec_item<'a>(alloc: Global, names: &[Text], left: usize, so_far: List<Spec>,
 
 /// { spec }
 #[cycle(syntax)]
-#[tactic(auto, using(crate::proofs::Levels::repeat_rules), unfolding(c_grammar::specs::Reading::read_more_specs))]
+#[tactic(auto, using(crate::proofs::LevelLaws::repeat_rules), unfolding(c_grammar::specs::Reading::read_more_specs))]
 fn more_specs<'a>(alloc: Global, names: &[Text], left: usize, so_far: List<Spec>, ts: &'a [Token]) -> Read<'a, List<Spec>>
     ensures { Gives (λ x. (x.0, x.1.now)) result (spec.read_more_specs names.now (spec.levels names.now left) so_far ts.now) }
 {
@@ -98,7 +98,7 @@ fn spec<'a>(alloc: Global, names: &[Text], left: usize, ts: &'a [Token]) -> Read
 
 /// struct = "struct" [ NAME ] "{" member { member } "}" | "struct" NAME
 #[cycle(syntax)]
-#[tactic(auto, using(crate::proofs::Levels::level_rules), unfolding(c_grammar::specs::Reading::read_structs))]
+#[tactic(auto, using(crate::proofs::LevelLaws::level_rules), unfolding(c_grammar::specs::Reading::read_structs))]
 fn struct_spec<'a>(alloc: Global, names: &[Text], left: usize, ts: &'a [Token]) -> Read<'a, StructSpec>
     ensures { Gives (λ x. (x.0, x.1.now)) result ((spec.levels names.now left).structs ts.now) }
 {
@@ -155,7 +155,7 @@ fn member_item<'a>(alloc: Global, names: &[Text], left: usize, so_far: List<Memb
 
 /// { member }
 #[cycle(syntax)]
-#[tactic(auto, using(crate::proofs::Levels::repeat_rules), unfolding(c_grammar::specs::Reading::read_more_members))]
+#[tactic(auto, using(crate::proofs::LevelLaws::repeat_rules), unfolding(c_grammar::specs::Reading::read_more_members))]
 fn more_members<'a>(alloc: Global, names: &[Text], left: usize, so_far: List<Member>, ts: &'a [Token]) -> Read<'a, List<Member>>
     ensures { Gives (λ x. (x.0, x.1.now)) result (spec.read_more_members names.now (spec.levels names.now left) so_far ts.now) }
 {
@@ -200,7 +200,7 @@ fn declarator_item<'a>(alloc: Global, names: &[Text], left: usize, so_far: List<
 
 /// { "," declarator }
 #[cycle(syntax)]
-#[tactic(auto, using(crate::proofs::Levels::repeat_rules), unfolding(c_grammar::specs::Reading::read_more_declarators))]
+#[tactic(auto, using(crate::proofs::LevelLaws::repeat_rules), unfolding(c_grammar::specs::Reading::read_more_declarators))]
 fn more_declarators<'a>(alloc: Global, names: &[Text], left: usize, so_far: List<Declarator>, ts: &'a [Token]) -> Read<'a, List<Declarator>>
     ensures { Gives (λ x. (x.0, x.1.now)) result (spec.read_more_declarators names.now (spec.levels names.now left) so_far ts.now) }
 {
@@ -274,7 +274,7 @@ fn enumr_item<'a>(alloc: Global, names: &[Text], left: usize, so_far: List<Enume
 
 /// { "," enumr }
 #[cycle(syntax)]
-#[tactic(auto, using(crate::proofs::Levels::repeat_rules), unfolding(c_grammar::specs::Reading::read_more_enumrs))]
+#[tactic(auto, using(crate::proofs::LevelLaws::repeat_rules), unfolding(c_grammar::specs::Reading::read_more_enumrs))]
 fn more_enumrs<'a>(alloc: Global, names: &[Text], left: usize, so_far: List<Enumerator>, ts: &'a [Token]) -> Read<'a, List<Enumerator>>
     ensures { Gives (λ x. (x.0, x.1.now)) result (spec.read_more_enumrs names.now (spec.levels names.now left) so_far ts.now) }
 {

@@ -150,7 +150,7 @@ fn part_of_unit<'a>(alloc: Global, left: usize, so_far: SoFar, ts: &'a [Token]) 
 }
 
 /// unit = { INCLUDE | decl | function }
-#[tactic(auto, using(crate::proofs::Levels::repeat_rules), unfolding(c_grammar::specs::Reading::read_unit))]
+#[tactic(auto, using(crate::proofs::LevelLaws::repeat_rules), unfolding(c_grammar::specs::Reading::read_unit))]
 pub fn unit<'a>(alloc: Global, left: usize, ts: &'a [Token]) -> Read<'a, SoFar>
     ensures { Gives (λ x. ((x.0.names, x.0.parts), x.1.now)) result (spec.read_unit left ts.now) }
 {
