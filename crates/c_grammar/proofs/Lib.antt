@@ -3,4 +3,3 @@ pub mod UnitShrinks
 pub mod Soundness
 pub mod Sound
 pub mod UnitSound
-pub mod Steps

@@ -35,7 +35,7 @@ module _ (names : List (List ℕ)) (below : Readers) (h : Sounds names below) wh
       (λ _. and_so _ (block_sound names below h r3) (λ b rest d3. done (a_function d0 d1 d2 d3)))
       (λ _. and_so _ (first_init_sound d xs r1 r2 r3 d1 d2) (λ i r4 d3. and_so _ (more_inits_sound names below h (i ∷ []) r4) (λ is r5 d4. and_so _ (expect_sound (Mark mark.Semicolon) r5) (λ c rest d5. done (inits_decl d0 d3 d4 d5)))))
 
-  external_sound : (ts : List Token) → Sound (ExternalAt names ts) (read_external names below ts)
+  pub external_sound : (ts : List Token) → Sound (ExternalAt names ts) (read_external names below ts)
   unfolding read_external read_after_specs read_bare read_declared
   external_sound ts = and_so _ (specs_sound names below h ts) (λ s r1 d0. either (next_is (Mark mark.Semicolon) r1) (read_bare s r1) (read_declared names below s r1)
       (λ _. and_so _ (expect_sound (Mark mark.Semicolon) r1) (λ c rest d1. done (bare_decl d0 d1)))

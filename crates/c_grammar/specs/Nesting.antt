@@ -37,7 +37,7 @@ abbrev pub earlier : Option ℕ → Option ℕ → Option ℕ
 earlier None b = b
 earlier (Some a) b = Some a
 
-mutual
+unfoldable mutual
   pub deep_expr : {names : List (List ℕ)} {ts rest : List Token} {a : Expr} → ExprAt names ts a rest → ℕ → Option ℕ
   deep_expr (exprs d0 d1) n = earlier (deep_assign d0 n) (deep_more_exprs d1 n)
 
@@ -195,7 +195,7 @@ mutual
   deep_nameless (group_abstract _ _ _ d2 _ d4) (suc n) = earlier (deep_nameless d2 n) (deep_suffixes d4 n)
   deep_nameless (plain_abstract _ _ d1) (suc n) = deep_suffixes d1 n
 
-mutual
+unfoldable mutual
   pub deep_initial : {names : List (List ℕ)} {ts rest : List Token} {a : Initial} → InitialAt names ts a rest → ℕ → Option ℕ
   deep_initial {ts = ts} d zero = Some (length ts)
   deep_initial (braced_initial _ d1 d2 _ _) (suc n) = earlier (deep_initial d1 n) (deep_more_initials d2 n)
@@ -205,31 +205,31 @@ mutual
   deep_more_initials no_initial n = None
   deep_more_initials (next_initial _ d1 m) n = earlier (deep_initial d1 n) (deep_more_initials m n)
 
-pub deep_init : {names : List (List ℕ)} {ts rest : List Token} {a : Init} → InitAt names ts a rest → ℕ → Option ℕ
+unfoldable pub deep_init : {names : List (List ℕ)} {ts rest : List Token} {a : Init} → InitAt names ts a rest → ℕ → Option ℕ
 deep_init (init_value d0 _ _ d3) n = earlier (deep_declarator d0 n) (deep_initial d3 n)
 deep_init (init_plain d0 _) n = deep_declarator d0 n
 
-pub deep_more_inits : {names : List (List ℕ)} {ts rest : List Token} {so_far all : List Init} → MoreInits names ts so_far all rest → ℕ → Option ℕ
+unfoldable pub deep_more_inits : {names : List (List ℕ)} {ts rest : List Token} {so_far all : List Init} → MoreInits names ts so_far all rest → ℕ → Option ℕ
 deep_more_inits no_init n = None
 deep_more_inits (next_init _ d1 m) n = earlier (deep_init d1 n) (deep_more_inits m n)
 
-pub deep_decl : {names : List (List ℕ)} {ts rest : List Token} {a : Decl} → DeclAt names ts a rest → ℕ → Option ℕ
+unfoldable pub deep_decl : {names : List (List ℕ)} {ts rest : List Token} {a : Decl} → DeclAt names ts a rest → ℕ → Option ℕ
 deep_decl (bare_decl d0 _) n = deep_specs d0 n
 deep_decl (inits_decl d0 d1 d2 _) n = earlier (deep_specs d0 n) (earlier (deep_init d1 n) (deep_more_inits d2 n))
 
-pub deep_opt_expr : {names : List (List ℕ)} {ts rest : List Token} {a : Option Expr} → OptExpr names ts a rest → ℕ → Option ℕ
+unfoldable pub deep_opt_expr : {names : List (List ℕ)} {ts rest : List Token} {a : Option Expr} → OptExpr names ts a rest → ℕ → Option ℕ
 deep_opt_expr (an_expr d0) n = deep_expr d0 n
 deep_opt_expr without_expr n = None
 
-pub deep_first : {names : List (List ℕ)} {ts rest : List Token} {a : First} → FirstAt names ts a rest → ℕ → Option ℕ
+unfoldable pub deep_first : {names : List (List ℕ)} {ts rest : List Token} {a : First} → FirstAt names ts a rest → ℕ → Option ℕ
 deep_first (first_decl d0) n = deep_decl d0 n
 deep_first (first_expr d0 _) n = deep_opt_expr d0 n
 
-pub deep_label : {names : List (List ℕ)} {ts rest : List Token} {a : Label} → LabelAt names ts a rest → ℕ → Option ℕ
+unfoldable pub deep_label : {names : List (List ℕ)} {ts rest : List Token} {a : Label} → LabelAt names ts a rest → ℕ → Option ℕ
 deep_label (case_label _ d1 _) n = deep_cond d1 n
 deep_label (default_label _ _) n = None
 
-mutual
+unfoldable mutual
   pub deep_block : {names : List (List ℕ)} {ts rest : List Token} {a : Block} → BlockAt names ts a rest → ℕ → Option ℕ
   deep_block (braces _ d1 _) n = deep_items d1 n
 
@@ -265,10 +265,10 @@ mutual
   deep_part (decl_part d0) n = deep_decl d0 n
   deep_part (stmt_part d0) n = deep_stmt d0 n
 
-pub deep_function : {names : List (List ℕ)} {ts rest : List Token} {f : Function} → FunctionAt names ts f rest → ℕ → Option ℕ
+unfoldable pub deep_function : {names : List (List ℕ)} {ts rest : List Token} {f : Function} → FunctionAt names ts f rest → ℕ → Option ℕ
 deep_function (a_function d0 d1 _ d3) n = earlier (deep_specs d0 n) (earlier (deep_declarator d1 n) (deep_block d3 n))
 
-pub deep_unit : {names : List (List ℕ)} {ts : List Token} {so_far all : List External} → UnitAt names ts so_far all → ℕ → Option ℕ
+unfoldable pub deep_unit : {names : List (List ℕ)} {ts : List Token} {so_far all : List External} → UnitAt names ts so_far all → ℕ → Option ℕ
 deep_unit unit_end n = None
 deep_unit (unit_include _ m) n = deep_unit m n
 deep_unit (unit_decl d m) n = earlier (deep_decl d n) (deep_unit m n)

@@ -1,5 +1,5 @@
 -- What the next token says, and what can go on a part.
-use Rattle.std.proofs.Common.{◌≡◌, ℕ, zero, suc, ◌<◌, ◌≤◌, Bool, true, false, List, [], ◌∷◌, length, Option, Some, None, Ok, Err, refl, sym, ap, subst, arith}
+use Rattle.std.proofs.Common.{◌≡◌, ℕ, zero, suc, ◌<◌, ◌≤◌, Bool, true, false, List, [], ◌∷◌, length, Option, Some, None, Ok, Err, if◌then◌else◌, refl, sym, ap, subst, arith}
 use Rattle.cm_base.specs.declared.place.Place.{Place}
 use Rattle.c_lex.specs.declared.token.Keyword.TheVariants as word
 use Rattle.c_lex.specs.declared.token.Punct.TheVariants as mark
@@ -8,15 +8,15 @@ use Rattle.c_grammar.specs.declared.tokens.Sign.{Sign}
 use Rattle.c_grammar.specs.declared.tokens.Sign.TheVariants.{Word, Mark}
 use Rattle.c_lex.specs.declared.token.Keyword.{Keyword}
 use Rattle.c_lex.specs.declared.token.Punct.{Punct}
-use Rattle.c_lex.specs.declared.token.Kind.{Kind}
 use Rattle.c_lex.specs.declared.token.Kind.TheVariants as kind
 use Rattle.c_grammar.specs.Tokens.{◌>>=◌, Read, of, is, at, next_is, expect, has, take}
 use Rattle.c_grammar.specs.Tokens.{is_word, is_mark}
 use Rattle.c_grammar.specs.Grammar.{Next, token, Takes, takes}
-use Rattle.c_grammar.specs.Reading.{repeat}
+use Rattle.c_grammar.specs.Reading.{repeat, deep_if}
 use Rattle.c_grammar.specs.declared.tokens.Fault.TheVariants.{Deep}
 use Rattle.c_grammar.specs.Nesting.{earlier}
 use Rattle.c_grammar.proofs.Soundness.{is_same}
+use Rattle.grammar_laws.specs.Follow.{level, follow}
 
 -- ---- the next token
 
@@ -52,86 +52,75 @@ sign_at test b h (token {k = k} e) = subst (λ c. test (record { kind = c; place
 pub takes_at : {A : Type 0} {f : Token → Option A} (test : Token → Bool) (b : Bool) {ts r : List Token} {a : A} → ((k : Token) → f k ≡ Some a → test k ≡ b) → Takes f ts a r → at test ts ≡ b
 takes_at test b h (takes {k = k} e) = h k e
 
+-- another sign stands next
+pub other : {s : Sign} {ts r : List Token} {p : Place} (t : Sign) → Next s ts p r → is (of s) t ≡ false → next_is t ts ≡ false
+other t (token e) h = subst (λ c. is c t ≡ false) (sym e) h
+
 -- ---- what a reader answers of a part whose first token that is too deep is this one, if any
 
 abbrev pub answer : {A : Type 0} → Option ℕ → A × List Token → Read A
 answer None x = Ok x
 answer (Some l) x = Err (Deep l)
 
-pub and_then : {A B : Type 0} (o1 o2 : Option ℕ) {r : Read A} (x : A × List Token) (y : B × List Token) (f : A × List Token → Read B) →
+pub record Answers {A : Type 0} (r : Read A) (o : Option ℕ) (x : A × List Token) : Type 0 where
+  pub holds : r ≡ answer o x
+
+pub done : {A : Type 0} {x : A × List Token} → Answers (Ok x) None x
+done = record { holds = refl }
+
+pub read_by : {A : Type 0} {r : Read A} {x : A × List Token} → r ≡ Ok x → Answers r None x
+read_by e = record { holds = e }
+
+-- one part after another
+and_then : {A B : Type 0} (o1 o2 : Option ℕ) {r : Read A} (x : A × List Token) (y : B × List Token) (f : A × List Token → Read B) →
     r ≡ answer o1 x → f x ≡ answer o2 y → (r >>= f) ≡ answer (earlier o1 o2) y
 and_then None o2 x y f p q = rw p q
 and_then (Some l) o2 x y f p q = rw p refl
 
-pub and_last : {A B : Type 0} (o : Option ℕ) {r : Read A} (x : A × List Token) (y : B × List Token) (f : A × List Token → Read B) →
+pub and_so : {A B : Type 0} {o1 o2 : Option ℕ} {r : Read A} {a : A} {r1 : List Token} {y : B × List Token} (f : A × List Token → Read B) →
+    Answers r o1 (a, r1) → Answers (f (a, r1)) o2 y → Answers (r >>= f) (earlier o1 o2) y
+and_so {o1 = o1} {o2 = o2} {a = a} {r1 = r1} {y = y} f p q = record { holds = and_then o1 o2 (a, r1) y f p.holds q.holds }
+
+-- a part, and what is sure after it
+and_sure : {A B : Type 0} (o : Option ℕ) {r : Read A} (x : A × List Token) (y : B × List Token) (f : A × List Token → Read B) →
     r ≡ answer o x → f x ≡ Ok y → (r >>= f) ≡ answer o y
-and_last None x y f p q = rw p q
-and_last (Some l) x y f p q = rw p refl
+and_sure None x y f p q = rw p q
+and_sure (Some l) x y f p q = rw p refl
+
+pub and_last : {A B : Type 0} {o : Option ℕ} {r : Read A} {a : A} {r1 : List Token} {y : B × List Token} (f : A × List Token → Read B) →
+    Answers r o (a, r1) → Answers (f (a, r1)) None y → Answers (r >>= f) o y
+and_last {o = o} {a = a} {r1 = r1} {y = y} f p q = record { holds = and_sure o (a, r1) y f p.holds q.holds }
+
+-- what is sure, and a part after it
+pub step : {A B : Type 0} {o : Option ℕ} {r : Read A} {a : A} {r1 : List Token} {y : B × List Token} (f : A × List Token → Read B) →
+    r ≡ Ok (a, r1) → Answers (f (a, r1)) o y → Answers (r >>= f) o y
+step f p q = record { holds = rw p q.holds }
+
+pub if_so : {A : Type 0} {b : Bool} {r : Read A} (s : Read A) {o : Option ℕ} {x : A × List Token} → b ≡ true → Answers r o x → Answers (if b then r else s) o x
+if_so s h p = record { holds = rw h p.holds }
+
+pub if_not : {A : Type 0} {b : Bool} (r : Read A) {s : Read A} {o : Option ℕ} {x : A × List Token} → b ≡ false → Answers s o x → Answers (if b then r else s) o x
+if_not r h p = record { holds = rw h p.holds }
+
+-- the next token begins the part, and no level is left
+pub too_deep : {A : Type 0} {b : Bool} (ts : List Token) {x : A × List Token} → b ≡ true → Answers (Err (deep_if b ts)) (Some (length ts)) x
+too_deep ts h = record { holds = rw h refl }
 
 -- ---- repetition
 
-pub repeat_ends : {A : Type 0} (test : List Token → Bool) (one : A → List Token → Read A) (n : ℕ) (a : A) (ts : List Token) → test ts ≡ false → repeat test one n a ts ≡ Ok (a, ts)
+pub ends : {A : Type 0} (test : List Token → Bool) (one : A → List Token → Read A) (n : ℕ) (a : A) (ts : List Token) → test ts ≡ false → Answers (repeat test one n a ts) None (a, ts)
 unfolding repeat
-repeat_ends test one zero a ts e = refl
-repeat_ends test one (suc n) a ts e = rw e refl
+ends test one zero a ts e = done
+ends test one (suc n) a ts e = if_not _ e done
 
-pub repeat_turns : {A : Type 0} (o1 o2 : Option ℕ) (test : List Token → Bool) (one : A → List Token → Read A) (n : ℕ) (a b : A) (ts r : List Token) (x : A × List Token) →
-    test ts ≡ true → one a ts ≡ answer o1 (b, r) → length r < length ts → length ts ≤ n → ((m : ℕ) → length r ≤ m → repeat test one m b r ≡ answer o2 x) →
-    repeat test one n a ts ≡ answer (earlier o1 o2) x
+pub turns : {A : Type 0} {o1 o2 : Option ℕ} (test : List Token → Bool) (one : A → List Token → Read A) (n : ℕ) {a b : A} {ts r : List Token} {x : A × List Token} →
+    test ts ≡ true → Answers (one a ts) o1 (b, r) → length r < length ts → length ts ≤ n → ((m : ℕ) → length r ≤ m → Answers (repeat test one m b r) o2 x) →
+    Answers (repeat test one n a ts) (earlier o1 o2) x
 unfolding repeat
-repeat_turns o1 o2 test one zero a b ts r x t e shrinks fits h = absurd (omega arith)
-repeat_turns o1 o2 test one (suc n) a b ts r x t e shrinks fits h = rw t (and_then o1 o2 (b, r) x (λ c. repeat test one n c.0 c.1) e (h n (omega arith)))
+turns test one zero t e shrinks fits h = absurd (omega arith)
+turns test one (suc n) t e shrinks fits h = if_so _ t (and_so _ e (h n (omega arith)))
 
 -- ---- what can go on a part before it
-
--- how loosely a token goes on with an expression before it; 0 where it doesn't
-abbrev pub mark_level : Punct → ℕ
-mark_level mark.Comma = 1
-mark_level mark.Assign = 2
-mark_level mark.StarAssign = 2
-mark_level mark.SlashAssign = 2
-mark_level mark.PercentAssign = 2
-mark_level mark.PlusAssign = 2
-mark_level mark.MinusAssign = 2
-mark_level mark.ShlAssign = 2
-mark_level mark.ShrAssign = 2
-mark_level mark.AmpAssign = 2
-mark_level mark.CaretAssign = 2
-mark_level mark.PipeAssign = 2
-mark_level mark.Question = 3
-mark_level mark.Star = 13
-mark_level mark.Slash = 13
-mark_level mark.Percent = 13
-mark_level mark.Plus = 12
-mark_level mark.Minus = 12
-mark_level mark.Shl = 11
-mark_level mark.Shr = 11
-mark_level mark.Less = 10
-mark_level mark.Greater = 10
-mark_level mark.LessEqual = 10
-mark_level mark.GreaterEqual = 10
-mark_level mark.EqualEqual = 9
-mark_level mark.NotEqual = 9
-mark_level mark.Amp = 8
-mark_level mark.Caret = 7
-mark_level mark.Pipe = 6
-mark_level mark.AndAnd = 5
-mark_level mark.OrOr = 4
-mark_level mark.ParenOpen = 14
-mark_level mark.BracketOpen = 14
-mark_level mark.Dot = 14
-mark_level mark.Arrow = 14
-mark_level mark.PlusPlus = 14
-mark_level mark.MinusMinus = 14
-mark_level _ = 0
-
-abbrev pub level : Kind → ℕ
-level (kind.Mark m) = mark_level m
-level _ = 0
-
-abbrev pub follow : List Token → ℕ
-follow [] = 0
-follow (k ∷ r) = level k.kind
 
 pub next_follow : {s : Sign} {ts r : List Token} {p : Place} → Next s ts p r → follow ts ≡ level (of s)
 next_follow (token e) = ap level e
