@@ -3,12 +3,12 @@
 ghost use Rattle.c_grammar.specs.Tokens.{Gives};
 ghost use Rattle.c_grammar.specs.Reading as spec;
 
+use crate::nodes::alone;
 use c_ast::{Attr, Name, One, Star};
 use c_grammar::begins::begins_star;
 use c_grammar::tokens::{Read, Sign, expect, next_is, take_name, take_string};
 use c_lex::token::{Keyword, Punct, Token};
 use cm_base::{List, Text};
-use crate::nodes::alone;
 use std::alloc::Global;
 
 /// NAME "(" STRING ")", after its NAME.
@@ -36,7 +36,12 @@ fn one<'a>(alloc: Global, names: &[Text], ts: &'a [Token]) -> Read<'a, One>
 
 /// "," one
 #[tactic(auto, unfolding(c_grammar::specs::Reading::read_one_item))]
-fn one_item<'a>(alloc: Global, names: &[Text], so_far: List<One>, ts: &'a [Token]) -> Read<'a, List<One>>
+fn one_item<'a>(
+    alloc: Global,
+    names: &[Text],
+    so_far: List<One>,
+    ts: &'a [Token],
+) -> Read<'a, List<One>>
     ensures { Gives (λ x. (x.0, x.1.now)) result (spec.read_one_item names.now so_far ts.now) }
 {
     let mut all = so_far;
@@ -48,7 +53,12 @@ fn one_item<'a>(alloc: Global, names: &[Text], so_far: List<One>, ts: &'a [Token
 
 /// { "," one }
 #[tactic(auto, using(crate::proofs::LevelLaws::repeat_rules), unfolding(c_grammar::specs::Reading::read_more_ones))]
-fn more_ones<'a>(alloc: Global, names: &[Text], so_far: List<One>, ts: &'a [Token]) -> Read<'a, List<One>>
+fn more_ones<'a>(
+    alloc: Global,
+    names: &[Text],
+    so_far: List<One>,
+    ts: &'a [Token],
+) -> Read<'a, List<One>>
     ensures { Gives (λ x. (x.0, x.1.now)) result (spec.read_more_ones names.now so_far ts.now) }
 {
     let mut all = so_far;
@@ -81,7 +91,12 @@ pub fn attr<'a>(alloc: Global, names: &[Text], ts: &'a [Token]) -> Read<'a, Attr
 
 /// attr, after others.
 #[tactic(auto, unfolding(c_grammar::specs::Reading::read_attr_item))]
-fn attr_item<'a>(alloc: Global, names: &[Text], so_far: List<Attr>, ts: &'a [Token]) -> Read<'a, List<Attr>>
+fn attr_item<'a>(
+    alloc: Global,
+    names: &[Text],
+    so_far: List<Attr>,
+    ts: &'a [Token],
+) -> Read<'a, List<Attr>>
     ensures { Gives (λ x. (x.0, x.1.now)) result (spec.read_attr_item names.now so_far ts.now) }
 {
     let mut all = so_far;
@@ -92,7 +107,12 @@ fn attr_item<'a>(alloc: Global, names: &[Text], so_far: List<Attr>, ts: &'a [Tok
 
 /// { attr }
 #[tactic(auto, using(crate::proofs::LevelLaws::repeat_rules), unfolding(c_grammar::specs::Reading::read_attrs))]
-pub fn attrs<'a>(alloc: Global, names: &[Text], so_far: List<Attr>, ts: &'a [Token]) -> Read<'a, List<Attr>>
+pub fn attrs<'a>(
+    alloc: Global,
+    names: &[Text],
+    so_far: List<Attr>,
+    ts: &'a [Token],
+) -> Read<'a, List<Attr>>
     ensures { Gives (λ x. (x.0, x.1.now)) result (spec.read_attrs names.now so_far ts.now) }
 {
     let mut all = so_far;
@@ -110,7 +130,12 @@ pub fn attrs<'a>(alloc: Global, names: &[Text], so_far: List<Attr>, ts: &'a [Tok
 
 /// attr, before the first "*".
 #[tactic(auto, unfolding(c_grammar::specs::Reading::read_lead_item))]
-fn lead_item<'a>(alloc: Global, names: &[Text], so_far: List<Star>, ts: &'a [Token]) -> Read<'a, List<Star>>
+fn lead_item<'a>(
+    alloc: Global,
+    names: &[Text],
+    so_far: List<Star>,
+    ts: &'a [Token],
+) -> Read<'a, List<Star>>
     ensures { Gives (λ x. (x.0, x.1.now)) result (spec.read_lead_item names.now so_far ts.now) }
 {
     let mut all = so_far;
@@ -121,7 +146,12 @@ fn lead_item<'a>(alloc: Global, names: &[Text], so_far: List<Star>, ts: &'a [Tok
 
 /// { attr }, before the first "*".
 #[tactic(auto, using(crate::proofs::LevelLaws::repeat_rules), unfolding(c_grammar::specs::Reading::read_lead_attrs))]
-fn lead_attrs<'a>(alloc: Global, names: &[Text], so_far: List<Star>, ts: &'a [Token]) -> Read<'a, List<Star>>
+fn lead_attrs<'a>(
+    alloc: Global,
+    names: &[Text],
+    so_far: List<Star>,
+    ts: &'a [Token],
+) -> Read<'a, List<Star>>
     ensures { Gives (λ x. (x.0, x.1.now)) result (spec.read_lead_attrs names.now so_far ts.now) }
 {
     let mut all = so_far;
@@ -160,7 +190,12 @@ fn star<'a>(alloc: Global, names: &[Text], ts: &'a [Token]) -> Read<'a, Star>
 
 /// One of the stars, after others.
 #[tactic(auto, unfolding(c_grammar::specs::Reading::read_star_item))]
-fn star_item<'a>(alloc: Global, names: &[Text], so_far: List<Star>, ts: &'a [Token]) -> Read<'a, List<Star>>
+fn star_item<'a>(
+    alloc: Global,
+    names: &[Text],
+    so_far: List<Star>,
+    ts: &'a [Token],
+) -> Read<'a, List<Star>>
     ensures { Gives (λ x. (x.0, x.1.now)) result (spec.read_star_item names.now so_far ts.now) }
 {
     let mut all = so_far;
@@ -171,7 +206,12 @@ fn star_item<'a>(alloc: Global, names: &[Text], so_far: List<Star>, ts: &'a [Tok
 
 /// { "*" | "const" | "volatile" | attr }
 #[tactic(auto, using(crate::proofs::LevelLaws::repeat_rules), unfolding(c_grammar::specs::Reading::read_more_stars))]
-fn more_stars<'a>(alloc: Global, names: &[Text], so_far: List<Star>, ts: &'a [Token]) -> Read<'a, List<Star>>
+fn more_stars<'a>(
+    alloc: Global,
+    names: &[Text],
+    so_far: List<Star>,
+    ts: &'a [Token],
+) -> Read<'a, List<Star>>
     ensures { Gives (λ x. (x.0, x.1.now)) result (spec.read_more_stars names.now so_far ts.now) }
 {
     let mut all = so_far;
@@ -189,7 +229,12 @@ fn more_stars<'a>(alloc: Global, names: &[Text], so_far: List<Star>, ts: &'a [To
 
 /// The first "*" of the stars, and those after it.
 #[tactic(auto, unfolding(c_grammar::specs::Reading::read_some_stars))]
-fn some_stars<'a>(alloc: Global, names: &[Text], so_far: List<Star>, ts: &'a [Token]) -> Read<'a, List<Star>>
+fn some_stars<'a>(
+    alloc: Global,
+    names: &[Text],
+    so_far: List<Star>,
+    ts: &'a [Token],
+) -> Read<'a, List<Star>>
     ensures { Gives (λ x. (x.0, x.1.now)) result (spec.read_some_stars names.now so_far ts.now) }
 {
     let mut all = so_far;

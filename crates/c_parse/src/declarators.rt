@@ -9,7 +9,9 @@ use crate::levels::{deep_if, no_either, no_nameless, opens_name};
 use crate::nodes::{abstract_around, alone, around, either_around, param_of};
 use crate::types::specs;
 use c_ast::{Abstract, Declarator, Expr, Param, Params, Star, Suffix};
-use c_grammar::begins::{begins_declarator, begins_expr, begins_spec, begins_suffix, opens_group, void_params};
+use c_grammar::begins::{
+    begins_declarator, begins_expr, begins_spec, begins_suffix, opens_group, void_params,
+};
 use c_grammar::either::Either;
 use c_grammar::tokens::{Read, Sign, expect, next_is, next_is_name, take_name};
 use c_lex::token::{Keyword, Punct, Token};
@@ -19,7 +21,12 @@ use std::alloc::Global;
 /// declarator = stars ( NAME | "(" declarator ")" ) { suffix }
 #[cycle(syntax)]
 #[tactic(auto, using(crate::proofs::LevelLaws::level_rules), unfolding(c_grammar::specs::Reading::read_declarator))]
-pub fn declarator<'a>(alloc: Global, names: &[Text], left: usize, ts: &'a [Token]) -> Read<'a, Declarator>
+pub fn declarator<'a>(
+    alloc: Global,
+    names: &[Text],
+    left: usize,
+    ts: &'a [Token],
+) -> Read<'a, Declarator>
     ensures { Gives (λ x. (x.0, x.1.now)) result ((spec.levels names.now left).declarator ts.now) }
 {
     if left == 0 {
@@ -36,18 +43,36 @@ pub fn declarator<'a>(alloc: Global, names: &[Text], left: usize, ts: &'a [Token
 /// NAME { suffix }, after its stars.
 #[cycle(syntax)]
 #[tactic(auto, unfolding(c_grammar::specs::Reading::read_plain_declarator))]
-fn plain_declarator<'a>(alloc: Global, names: &[Text], left: usize, before: List<Star>, ts: &'a [Token]) -> Read<'a, Declarator>
+fn plain_declarator<'a>(
+    alloc: Global,
+    names: &[Text],
+    left: usize,
+    before: List<Star>,
+    ts: &'a [Token],
+) -> Read<'a, Declarator>
     ensures { Gives (λ x. (x.0, x.1.now)) result (spec.read_plain_declarator names.now (spec.levels names.now left) before ts.now) }
 {
     let (name, rest) = take_name(alloc, names, ts)?;
     let (after, rest) = suffixes(alloc, names, left, List::new(alloc), rest)?;
-    Ok((Declarator { name, form: Abstract::Plain(before, after) }, rest))
+    Ok((
+        Declarator {
+            name,
+            form: Abstract::Plain(before, after),
+        },
+        rest,
+    ))
 }
 
 /// "(" declarator ")" { suffix }, after its stars.
 #[cycle(syntax)]
 #[tactic(auto, unfolding(c_grammar::specs::Reading::read_group_declarator))]
-fn group_declarator<'a>(alloc: Global, names: &[Text], left: usize, before: List<Star>, ts: &'a [Token]) -> Read<'a, Declarator>
+fn group_declarator<'a>(
+    alloc: Global,
+    names: &[Text],
+    left: usize,
+    before: List<Star>,
+    ts: &'a [Token],
+) -> Read<'a, Declarator>
     ensures { Gives (λ x. (x.0, x.1.now)) result (spec.read_group_declarator names.now (spec.levels names.now left) before ts.now) }
 {
     let (place, rest) = expect(ts, Sign::Mark(Punct::ParenOpen))?;
@@ -60,7 +85,13 @@ fn group_declarator<'a>(alloc: Global, names: &[Text], left: usize, before: List
 /// suffix, after others.
 #[cycle(syntax)]
 #[tactic(auto, unfolding(c_grammar::specs::Reading::read_suffix_item))]
-fn suffix_item<'a>(alloc: Global, names: &[Text], left: usize, so_far: List<Suffix>, ts: &'a [Token]) -> Read<'a, List<Suffix>>
+fn suffix_item<'a>(
+    alloc: Global,
+    names: &[Text],
+    left: usize,
+    so_far: List<Suffix>,
+    ts: &'a [Token],
+) -> Read<'a, List<Suffix>>
     ensures { Gives (λ x. (x.0, x.1.now)) result (spec.read_suffix_item names.now (spec.levels names.now left) so_far ts.now) }
 {
     let mut all = so_far;
@@ -72,7 +103,13 @@ fn suffix_item<'a>(alloc: Global, names: &[Text], left: usize, so_far: List<Suff
 /// { suffix }
 #[cycle(syntax)]
 #[tactic(auto, using(crate::proofs::LevelLaws::repeat_rules), unfolding(c_grammar::specs::Reading::read_suffixes))]
-fn suffixes<'a>(alloc: Global, names: &[Text], left: usize, so_far: List<Suffix>, ts: &'a [Token]) -> Read<'a, List<Suffix>>
+fn suffixes<'a>(
+    alloc: Global,
+    names: &[Text],
+    left: usize,
+    so_far: List<Suffix>,
+    ts: &'a [Token],
+) -> Read<'a, List<Suffix>>
     ensures { Gives (λ x. (x.0, x.1.now)) result (spec.read_suffixes names.now (spec.levels names.now left) so_far ts.now) }
 {
     let mut all = so_far;
@@ -115,7 +152,12 @@ fn array_suffix<'a>(alloc: Global, names: &[Text], left: usize, ts: &'a [Token])
 /// [ cond ]
 #[cycle(syntax)]
 #[tactic(auto, unfolding(c_grammar::specs::Reading::read_opt_cond))]
-fn opt_cond<'a>(alloc: Global, names: &[Text], left: usize, ts: &'a [Token]) -> Read<'a, Option<Expr>>
+fn opt_cond<'a>(
+    alloc: Global,
+    names: &[Text],
+    left: usize,
+    ts: &'a [Token],
+) -> Read<'a, Option<Expr>>
     ensures { Gives (λ x. (x.0, x.1.now)) result (spec.read_opt_cond names.now (spec.levels names.now left) ts.now) }
 {
     if begins_expr(names, ts) {
@@ -128,7 +170,12 @@ fn opt_cond<'a>(alloc: Global, names: &[Text], left: usize, ts: &'a [Token]) -> 
 /// "(" [ params ] ")"
 #[cycle(syntax)]
 #[tactic(auto, unfolding(c_grammar::specs::Reading::read_params_suffix))]
-fn params_suffix<'a>(alloc: Global, names: &[Text], left: usize, ts: &'a [Token]) -> Read<'a, Suffix>
+fn params_suffix<'a>(
+    alloc: Global,
+    names: &[Text],
+    left: usize,
+    ts: &'a [Token],
+) -> Read<'a, Suffix>
     ensures { Gives (λ x. (x.0, x.1.now)) result (spec.read_params_suffix names.now (spec.levels names.now left) ts.now) }
 {
     let (place, rest) = expect(ts, Sign::Mark(Punct::ParenOpen))?;
@@ -167,7 +214,13 @@ fn some_params<'a>(alloc: Global, names: &[Text], left: usize, ts: &'a [Token]) 
 /// "," param
 #[cycle(syntax)]
 #[tactic(auto, unfolding(c_grammar::specs::Reading::read_param_item))]
-fn param_item<'a>(alloc: Global, names: &[Text], left: usize, so_far: List<Param>, ts: &'a [Token]) -> Read<'a, List<Param>>
+fn param_item<'a>(
+    alloc: Global,
+    names: &[Text],
+    left: usize,
+    so_far: List<Param>,
+    ts: &'a [Token],
+) -> Read<'a, List<Param>>
     ensures { Gives (λ x. (x.0, x.1.now)) result (spec.read_param_item names.now (spec.levels names.now left) so_far ts.now) }
 {
     let mut all = so_far;
@@ -180,7 +233,13 @@ fn param_item<'a>(alloc: Global, names: &[Text], left: usize, so_far: List<Param
 /// { "," param }
 #[cycle(syntax)]
 #[tactic(auto, using(crate::proofs::LevelLaws::repeat_rules), unfolding(c_grammar::specs::Reading::read_more_params))]
-fn more_params<'a>(alloc: Global, names: &[Text], left: usize, so_far: List<Param>, ts: &'a [Token]) -> Read<'a, List<Param>>
+fn more_params<'a>(
+    alloc: Global,
+    names: &[Text],
+    left: usize,
+    so_far: List<Param>,
+    ts: &'a [Token],
+) -> Read<'a, List<Param>>
     ensures { Gives (λ x. (x.0, x.1.now)) result (spec.read_more_params names.now (spec.levels names.now left) so_far ts.now) }
 {
     let mut all = so_far;
@@ -224,7 +283,13 @@ fn either<'a>(alloc: Global, names: &[Text], left: usize, ts: &'a [Token]) -> Re
 /// declarator | abstract, after the stars.
 #[cycle(syntax)]
 #[tactic(auto, unfolding(c_grammar::specs::Reading::read_after_stars))]
-fn after_stars<'a>(alloc: Global, names: &[Text], left: usize, before: List<Star>, ts: &'a [Token]) -> Read<'a, Either>
+fn after_stars<'a>(
+    alloc: Global,
+    names: &[Text],
+    left: usize,
+    before: List<Star>,
+    ts: &'a [Token],
+) -> Read<'a, Either>
     ensures { Gives (λ x. (x.0, x.1.now)) result (spec.read_after_stars names.now (spec.levels names.now left) before ts.now) }
 {
     if next_is_name(names, ts) {
@@ -242,31 +307,58 @@ fn after_stars<'a>(alloc: Global, names: &[Text], left: usize, before: List<Star
 /// NAME { suffix }, after its stars.
 #[cycle(syntax)]
 #[tactic(auto, unfolding(c_grammar::specs::Reading::read_plain_either))]
-fn plain_either<'a>(alloc: Global, names: &[Text], left: usize, before: List<Star>, ts: &'a [Token]) -> Read<'a, Either>
+fn plain_either<'a>(
+    alloc: Global,
+    names: &[Text],
+    left: usize,
+    before: List<Star>,
+    ts: &'a [Token],
+) -> Read<'a, Either>
     ensures { Gives (λ x. (x.0, x.1.now)) result (spec.read_plain_either names.now (spec.levels names.now left) before ts.now) }
 {
     let (name, rest) = take_name(alloc, names, ts)?;
     let (after, rest) = suffixes(alloc, names, left, List::new(alloc), rest)?;
-    Ok((Either::Named(Declarator { name, form: Abstract::Plain(before, after) }), rest))
+    Ok((
+        Either::Named(Declarator {
+            name,
+            form: Abstract::Plain(before, after),
+        }),
+        rest,
+    ))
 }
 
 /// "(" declarator ")" { suffix }, after its stars.
 #[cycle(syntax)]
 #[tactic(auto, unfolding(c_grammar::specs::Reading::read_named_either))]
-fn named_either<'a>(alloc: Global, names: &[Text], left: usize, before: List<Star>, ts: &'a [Token]) -> Read<'a, Either>
+fn named_either<'a>(
+    alloc: Global,
+    names: &[Text],
+    left: usize,
+    before: List<Star>,
+    ts: &'a [Token],
+) -> Read<'a, Either>
     ensures { Gives (λ x. (x.0, x.1.now)) result (spec.read_named_either names.now (spec.levels names.now left) before ts.now) }
 {
     let (place, rest) = expect(ts, Sign::Mark(Punct::ParenOpen))?;
     let (inner, rest) = declarator(alloc, names, left, rest)?;
     let (_close, rest) = expect(rest, Sign::Mark(Punct::ParenClose))?;
     let (after, rest) = suffixes(alloc, names, left, List::new(alloc), rest)?;
-    Ok((Either::Named(around(alloc, before, place, inner, after)?), rest))
+    Ok((
+        Either::Named(around(alloc, before, place, inner, after)?),
+        rest,
+    ))
 }
 
 /// "(" ( declarator | abstract ) ")" { suffix }, after its stars.
 #[cycle(syntax)]
 #[tactic(auto, unfolding(c_grammar::specs::Reading::read_group_either))]
-fn group_either<'a>(alloc: Global, names: &[Text], left: usize, before: List<Star>, ts: &'a [Token]) -> Read<'a, Either>
+fn group_either<'a>(
+    alloc: Global,
+    names: &[Text],
+    left: usize,
+    before: List<Star>,
+    ts: &'a [Token],
+) -> Read<'a, Either>
     ensures { Gives (λ x. (x.0, x.1.now)) result (spec.read_group_either names.now (spec.levels names.now left) before ts.now) }
 {
     let (place, rest) = expect(ts, Sign::Mark(Punct::ParenOpen))?;
@@ -279,7 +371,13 @@ fn group_either<'a>(alloc: Global, names: &[Text], left: usize, before: List<Sta
 /// { suffix }, after its stars.
 #[cycle(syntax)]
 #[tactic(auto, unfolding(c_grammar::specs::Reading::read_bare_either))]
-fn bare_either<'a>(alloc: Global, names: &[Text], left: usize, before: List<Star>, ts: &'a [Token]) -> Read<'a, Either>
+fn bare_either<'a>(
+    alloc: Global,
+    names: &[Text],
+    left: usize,
+    before: List<Star>,
+    ts: &'a [Token],
+) -> Read<'a, Either>
     ensures { Gives (λ x. (x.0, x.1.now)) result (spec.read_bare_either names.now (spec.levels names.now left) before ts.now) }
 {
     let (after, rest) = suffixes(alloc, names, left, List::new(alloc), ts)?;
@@ -289,7 +387,12 @@ fn bare_either<'a>(alloc: Global, names: &[Text], left: usize, before: List<Star
 /// abstract = stars [ "(" abstract ")" ] { suffix }
 #[cycle(syntax)]
 #[tactic(auto, using(crate::proofs::LevelLaws::level_rules), unfolding(c_grammar::specs::Reading::read_nameless))]
-pub fn nameless<'a>(alloc: Global, names: &[Text], left: usize, ts: &'a [Token]) -> Read<'a, Abstract>
+pub fn nameless<'a>(
+    alloc: Global,
+    names: &[Text],
+    left: usize,
+    ts: &'a [Token],
+) -> Read<'a, Abstract>
     ensures { Gives (λ x. (x.0, x.1.now)) result ((spec.levels names.now left).nameless ts.now) }
 {
     if left == 0 {
@@ -307,7 +410,13 @@ pub fn nameless<'a>(alloc: Global, names: &[Text], left: usize, ts: &'a [Token])
 /// "(" abstract ")" { suffix }, after its stars.
 #[cycle(syntax)]
 #[tactic(auto, unfolding(c_grammar::specs::Reading::read_group_abstract))]
-fn group_abstract<'a>(alloc: Global, names: &[Text], left: usize, before: List<Star>, ts: &'a [Token]) -> Read<'a, Abstract>
+fn group_abstract<'a>(
+    alloc: Global,
+    names: &[Text],
+    left: usize,
+    before: List<Star>,
+    ts: &'a [Token],
+) -> Read<'a, Abstract>
     ensures { Gives (λ x. (x.0, x.1.now)) result (spec.read_group_abstract names.now (spec.levels names.now left) before ts.now) }
 {
     let (place, rest) = expect(ts, Sign::Mark(Punct::ParenOpen))?;

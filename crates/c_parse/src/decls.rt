@@ -36,7 +36,12 @@ pub fn initial<'a>(alloc: Global, names: &[Text], left: usize, ts: &'a [Token]) 
 /// "{" initial { "," initial } [ "," ] "}"
 #[cycle(initials)]
 #[tactic(auto, unfolding(c_grammar::specs::Reading::read_braced_initial))]
-fn braced_initial<'a>(alloc: Global, names: &[Text], left: usize, ts: &'a [Token]) -> Read<'a, Initial>
+fn braced_initial<'a>(
+    alloc: Global,
+    names: &[Text],
+    left: usize,
+    ts: &'a [Token],
+) -> Read<'a, Initial>
     ensures { Gives (λ x. (x.0, x.1.now)) result (spec.read_braced_initial names.now (spec.levels names.now left) ts.now) }
 {
     let (place, rest) = expect(ts, Sign::Mark(Punct::BraceOpen))?;
@@ -50,7 +55,13 @@ fn braced_initial<'a>(alloc: Global, names: &[Text], left: usize, ts: &'a [Token
 /// "," initial
 #[cycle(initials)]
 #[tactic(auto, unfolding(c_grammar::specs::Reading::read_initial_item))]
-fn initial_item<'a>(alloc: Global, names: &[Text], left: usize, so_far: List<Initial>, ts: &'a [Token]) -> Read<'a, List<Initial>>
+fn initial_item<'a>(
+    alloc: Global,
+    names: &[Text],
+    left: usize,
+    so_far: List<Initial>,
+    ts: &'a [Token],
+) -> Read<'a, List<Initial>>
     ensures { Gives (λ x. (x.0, x.1.now)) result (spec.read_initial_item names.now (spec.levels names.now left) so_far ts.now) }
 {
     let mut all = so_far;
@@ -63,7 +74,13 @@ fn initial_item<'a>(alloc: Global, names: &[Text], left: usize, so_far: List<Ini
 /// { "," initial }
 #[cycle(initials)]
 #[tactic(auto, using(crate::proofs::LevelLaws::repeat_rules), unfolding(c_grammar::specs::Reading::read_more_initials))]
-fn more_initials<'a>(alloc: Global, names: &[Text], left: usize, so_far: List<Initial>, ts: &'a [Token]) -> Read<'a, List<Initial>>
+fn more_initials<'a>(
+    alloc: Global,
+    names: &[Text],
+    left: usize,
+    so_far: List<Initial>,
+    ts: &'a [Token],
+) -> Read<'a, List<Initial>>
     ensures { Gives (λ x. (x.0, x.1.now)) result (spec.read_more_initials names.now (spec.levels names.now left) so_far ts.now) }
 {
     let mut all = so_far;
@@ -89,22 +106,49 @@ fn init<'a>(alloc: Global, names: &[Text], left: usize, ts: &'a [Token]) -> Read
     if next_is(rest, Sign::Mark(Punct::Assign)) {
         return init_value(alloc, names, left, declarator, attrs, rest);
     }
-    Ok((Init { declarator, attrs, value: None }, rest))
+    Ok((
+        Init {
+            declarator,
+            attrs,
+            value: None,
+        },
+        rest,
+    ))
 }
 
 /// "=" initial, after its declarator and attributes.
 #[tactic(auto, unfolding(c_grammar::specs::Reading::read_init_value))]
-fn init_value<'a>(alloc: Global, names: &[Text], left: usize, declarator: Declarator, attrs: List<Attr>, ts: &'a [Token]) -> Read<'a, Init>
+fn init_value<'a>(
+    alloc: Global,
+    names: &[Text],
+    left: usize,
+    declarator: Declarator,
+    attrs: List<Attr>,
+    ts: &'a [Token],
+) -> Read<'a, Init>
     ensures { Gives (λ x. (x.0, x.1.now)) result (spec.read_init_value names.now (spec.levels names.now left) declarator attrs ts.now) }
 {
     let (_assign, rest) = expect(ts, Sign::Mark(Punct::Assign))?;
     let (value, rest) = initial(alloc, names, left, rest)?;
-    Ok((Init { declarator, attrs, value: Some(value) }, rest))
+    Ok((
+        Init {
+            declarator,
+            attrs,
+            value: Some(value),
+        },
+        rest,
+    ))
 }
 
 /// "," init
 #[tactic(auto, unfolding(c_grammar::specs::Reading::read_init_item))]
-fn init_item<'a>(alloc: Global, names: &[Text], left: usize, so_far: List<Init>, ts: &'a [Token]) -> Read<'a, List<Init>>
+fn init_item<'a>(
+    alloc: Global,
+    names: &[Text],
+    left: usize,
+    so_far: List<Init>,
+    ts: &'a [Token],
+) -> Read<'a, List<Init>>
     ensures { Gives (λ x. (x.0, x.1.now)) result (spec.read_init_item names.now (spec.levels names.now left) so_far ts.now) }
 {
     let mut all = so_far;
@@ -116,7 +160,13 @@ fn init_item<'a>(alloc: Global, names: &[Text], left: usize, so_far: List<Init>,
 
 /// { "," init }
 #[tactic(auto, using(crate::proofs::LevelLaws::repeat_rules), unfolding(c_grammar::specs::Reading::read_more_inits))]
-pub fn more_inits<'a>(alloc: Global, names: &[Text], left: usize, so_far: List<Init>, ts: &'a [Token]) -> Read<'a, List<Init>>
+pub fn more_inits<'a>(
+    alloc: Global,
+    names: &[Text],
+    left: usize,
+    so_far: List<Init>,
+    ts: &'a [Token],
+) -> Read<'a, List<Init>>
     ensures { Gives (λ x. (x.0, x.1.now)) result (spec.read_more_inits names.now (spec.levels names.now left) so_far ts.now) }
 {
     let mut all = so_far;
@@ -140,14 +190,26 @@ pub fn decl<'a>(alloc: Global, names: &[Text], left: usize, ts: &'a [Token]) -> 
     let (specs, rest) = specs(alloc, names, left, ts)?;
     if next_is(rest, Sign::Mark(Punct::Semicolon)) {
         let (_end, rest) = expect(rest, Sign::Mark(Punct::Semicolon))?;
-        return Ok((Decl { specs, inits: List::new(alloc) }, rest));
+        return Ok((
+            Decl {
+                specs,
+                inits: List::new(alloc),
+            },
+            rest,
+        ));
     }
     inits_decl(alloc, names, left, specs, rest)
 }
 
 /// init { "," init } ";", after its specifiers.
 #[tactic(auto, unfolding(c_grammar::specs::Reading::read_inits_decl))]
-fn inits_decl<'a>(alloc: Global, names: &[Text], left: usize, specs: List<Spec>, ts: &'a [Token]) -> Read<'a, Decl>
+fn inits_decl<'a>(
+    alloc: Global,
+    names: &[Text],
+    left: usize,
+    specs: List<Spec>,
+    ts: &'a [Token],
+) -> Read<'a, Decl>
     ensures { Gives (λ x. (x.0, x.1.now)) result (spec.read_inits_decl names.now (spec.levels names.now left) specs ts.now) }
 {
     let (first, rest) = init(alloc, names, left, ts)?;

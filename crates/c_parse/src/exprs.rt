@@ -5,12 +5,20 @@ ghost use Rattle.c_grammar.specs.Tokens.{Gives};
 ghost use Rattle.c_grammar.specs.Reading as spec;
 
 use crate::levels::deep_if;
-use crate::nodes::{accessed, alone, assignment, choice, commas, conversion, group, joined, prefix, size, step};
+use crate::nodes::{
+    accessed, alone, assignment, choice, commas, conversion, group, joined, prefix, size, step,
+};
 use crate::types::typename;
 use c_ast::{Access, Expr, Link};
 use c_grammar::begins::{begins_access, begins_expr, begins_step, type_follows};
-use c_grammar::operators::{has_assign_op, has_op, has_step_op, has_un_op, take_assign_op, take_op, take_step_op, take_un_op};
-use c_grammar::tokens::{Read, Sign, expect, has_char, has_number, has_string, next_is, next_is_name, take_char, take_name, take_number, take_string};
+use c_grammar::operators::{
+    has_assign_op, has_op, has_step_op, has_un_op, take_assign_op, take_op, take_step_op,
+    take_un_op,
+};
+use c_grammar::tokens::{
+    Read, Sign, expect, has_char, has_number, has_string, next_is, next_is_name, take_char,
+    take_name, take_number, take_string,
+};
 use c_lex::token::{Keyword, Punct, Token};
 use cm_base::{List, Place, Text};
 use std::alloc::Global;
@@ -29,7 +37,13 @@ pub fn expr<'a>(alloc: Global, names: &[Text], left: usize, ts: &'a [Token]) -> 
 /// "," assign
 #[cycle(syntax)]
 #[tactic(auto, unfolding(c_grammar::specs::Reading::read_expr_item))]
-fn expr_item<'a>(alloc: Global, names: &[Text], left: usize, so_far: List<Expr>, ts: &'a [Token]) -> Read<'a, List<Expr>>
+fn expr_item<'a>(
+    alloc: Global,
+    names: &[Text],
+    left: usize,
+    so_far: List<Expr>,
+    ts: &'a [Token],
+) -> Read<'a, List<Expr>>
     ensures { Gives (λ x. (x.0, x.1.now)) result (spec.read_expr_item names.now (spec.levels names.now left) so_far ts.now) }
 {
     let mut all = so_far;
@@ -42,7 +56,13 @@ fn expr_item<'a>(alloc: Global, names: &[Text], left: usize, so_far: List<Expr>,
 /// { "," assign }
 #[cycle(syntax)]
 #[tactic(auto, using(crate::proofs::LevelLaws::repeat_rules), unfolding(c_grammar::specs::Reading::read_more_exprs))]
-fn more_exprs<'a>(alloc: Global, names: &[Text], left: usize, so_far: List<Expr>, ts: &'a [Token]) -> Read<'a, List<Expr>>
+fn more_exprs<'a>(
+    alloc: Global,
+    names: &[Text],
+    left: usize,
+    so_far: List<Expr>,
+    ts: &'a [Token],
+) -> Read<'a, List<Expr>>
     ensures { Gives (λ x. (x.0, x.1.now)) result (spec.read_more_exprs names.now (spec.levels names.now left) so_far ts.now) }
 {
     let mut all = so_far;
@@ -78,7 +98,13 @@ pub fn assign<'a>(alloc: Global, names: &[Text], left: usize, ts: &'a [Token]) -
 /// aop assign, after its cond.
 #[cycle(syntax)]
 #[tactic(auto, unfolding(c_grammar::specs::Reading::read_assigned))]
-fn assigned<'a>(alloc: Global, names: &[Text], left: usize, to: Expr, ts: &'a [Token]) -> Read<'a, Expr>
+fn assigned<'a>(
+    alloc: Global,
+    names: &[Text],
+    left: usize,
+    to: Expr,
+    ts: &'a [Token],
+) -> Read<'a, Expr>
     ensures { Gives (λ x. (x.0, x.1.now)) result (spec.read_assigned names.now (spec.levels names.now left) to ts.now) }
 {
     let (op, rest) = take_assign_op(ts)?;
@@ -106,7 +132,13 @@ pub fn cond<'a>(alloc: Global, names: &[Text], left: usize, ts: &'a [Token]) -> 
 /// "?" expr ":" cond, after its test.
 #[cycle(syntax)]
 #[tactic(auto, unfolding(c_grammar::specs::Reading::read_chosen))]
-fn chosen<'a>(alloc: Global, names: &[Text], left: usize, test: Expr, ts: &'a [Token]) -> Read<'a, Expr>
+fn chosen<'a>(
+    alloc: Global,
+    names: &[Text],
+    left: usize,
+    test: Expr,
+    ts: &'a [Token],
+) -> Read<'a, Expr>
     ensures { Gives (λ x. (x.0, x.1.now)) result (spec.read_chosen names.now (spec.levels names.now left) test ts.now) }
 {
     let (place, rest) = expect(ts, Sign::Mark(Punct::Question))?;
@@ -119,21 +151,39 @@ fn chosen<'a>(alloc: Global, names: &[Text], left: usize, test: Expr, ts: &'a [T
 /// An operator of this level and its operand.
 #[cycle(syntax)]
 #[tactic(auto, unfolding(c_grammar::specs::Reading::read_op_item))]
-fn op_item<'a>(alloc: Global, names: &[Text], left: usize, level: usize, so_far: List<Link>, ts: &'a [Token]) -> Read<'a, List<Link>>
+fn op_item<'a>(
+    alloc: Global,
+    names: &[Text],
+    left: usize,
+    level: usize,
+    so_far: List<Link>,
+    ts: &'a [Token],
+) -> Read<'a, List<Link>>
     requires { level ≤ 10 }
     ensures { Gives (λ x. (x.0, x.1.now)) result (spec.read_op_item (spec.read_binary (spec.levels names.now left) level) level so_far ts.now) }
 {
     let mut all = so_far;
     let (op, rest) = take_op(level, ts)?;
     let (operand, rest) = binary(alloc, names, left, level, rest)?;
-    all.push(Link { place: op.0, op: op.1, operand })?;
+    all.push(Link {
+        place: op.0,
+        op: op.1,
+        operand,
+    })?;
     Ok((all, rest))
 }
 
 /// { operator operand }, the operators being of this level.
 #[cycle(syntax)]
 #[tactic(auto, using(crate::proofs::LevelLaws::repeat_rules), unfolding(c_grammar::specs::Reading::read_more_ops))]
-fn more_ops<'a>(alloc: Global, names: &[Text], left: usize, level: usize, so_far: List<Link>, ts: &'a [Token]) -> Read<'a, List<Link>>
+fn more_ops<'a>(
+    alloc: Global,
+    names: &[Text],
+    left: usize,
+    level: usize,
+    so_far: List<Link>,
+    ts: &'a [Token],
+) -> Read<'a, List<Link>>
     requires { level ≤ 10 }
     ensures { Gives (λ x. (x.0, x.1.now)) result (spec.read_more_ops (spec.read_binary (spec.levels names.now left) level) level so_far ts.now) }
 {
@@ -154,7 +204,13 @@ fn more_ops<'a>(alloc: Global, names: &[Text], left: usize, level: usize, so_far
 /// joined by `* / %` at level 1, and so on up to `||` at level 10.
 #[cycle(syntax)]
 #[tactic(auto, using(crate::proofs::LevelLaws::level_rules), unfolding(c_grammar::specs::Reading::read_binary))]
-fn binary<'a>(alloc: Global, names: &[Text], left: usize, level: usize, ts: &'a [Token]) -> Read<'a, Expr>
+fn binary<'a>(
+    alloc: Global,
+    names: &[Text],
+    left: usize,
+    level: usize,
+    ts: &'a [Token],
+) -> Read<'a, Expr>
     requires { level ≤ 10 }
     ensures { Gives (λ x. (x.0, x.1.now)) result (spec.read_binary (spec.levels names.now left) level ts.now) }
 {
@@ -266,7 +322,13 @@ fn size_of<'a>(alloc: Global, names: &[Text], left: usize, ts: &'a [Token]) -> R
 /// "(" typename ")", after `sizeof`.
 #[cycle(syntax)]
 #[tactic(auto, unfolding(c_grammar::specs::Reading::read_sizeof_type))]
-fn sizeof_type<'a>(alloc: Global, names: &[Text], left: usize, place: Place, ts: &'a [Token]) -> Read<'a, Expr>
+fn sizeof_type<'a>(
+    alloc: Global,
+    names: &[Text],
+    left: usize,
+    place: Place,
+    ts: &'a [Token],
+) -> Read<'a, Expr>
     ensures { Gives (λ x. (x.0, x.1.now)) result (spec.read_sizeof_type names.now (spec.levels names.now left) place ts.now) }
 {
     let (_open, rest) = expect(ts, Sign::Mark(Punct::ParenOpen))?;
@@ -278,7 +340,13 @@ fn sizeof_type<'a>(alloc: Global, names: &[Text], left: usize, place: Place, ts:
 /// unary, after `sizeof`.
 #[cycle(syntax)]
 #[tactic(auto, unfolding(c_grammar::specs::Reading::read_sizeof_expr))]
-fn sizeof_expr<'a>(alloc: Global, names: &[Text], left: usize, place: Place, ts: &'a [Token]) -> Read<'a, Expr>
+fn sizeof_expr<'a>(
+    alloc: Global,
+    names: &[Text],
+    left: usize,
+    place: Place,
+    ts: &'a [Token],
+) -> Read<'a, Expr>
     ensures { Gives (λ x. (x.0, x.1.now)) result (spec.read_sizeof_expr names.now (spec.levels names.now left) place ts.now) }
 {
     let (of, rest) = unary(alloc, names, left, ts)?;
@@ -299,7 +367,13 @@ fn postfix<'a>(alloc: Global, names: &[Text], left: usize, ts: &'a [Token]) -> R
 /// What is done to an expression, after others.
 #[cycle(syntax)]
 #[tactic(auto, unfolding(c_grammar::specs::Reading::read_access_item))]
-fn access_item<'a>(alloc: Global, names: &[Text], left: usize, so_far: List<Access>, ts: &'a [Token]) -> Read<'a, List<Access>>
+fn access_item<'a>(
+    alloc: Global,
+    names: &[Text],
+    left: usize,
+    so_far: List<Access>,
+    ts: &'a [Token],
+) -> Read<'a, List<Access>>
     ensures { Gives (λ x. (x.0, x.1.now)) result (spec.read_access_item names.now (spec.levels names.now left) so_far ts.now) }
 {
     let mut all = so_far;
@@ -311,7 +385,13 @@ fn access_item<'a>(alloc: Global, names: &[Text], left: usize, so_far: List<Acce
 /// { "[" expr "]" | "(" [ assign { "," assign } ] ")" | "." NAME | "->" NAME | "++" | "--" }
 #[cycle(syntax)]
 #[tactic(auto, using(crate::proofs::LevelLaws::repeat_rules), unfolding(c_grammar::specs::Reading::read_accesses))]
-fn accesses<'a>(alloc: Global, names: &[Text], left: usize, so_far: List<Access>, ts: &'a [Token]) -> Read<'a, List<Access>>
+fn accesses<'a>(
+    alloc: Global,
+    names: &[Text],
+    left: usize,
+    so_far: List<Access>,
+    ts: &'a [Token],
+) -> Read<'a, List<Access>>
     ensures { Gives (λ x. (x.0, x.1.now)) result (spec.read_accesses names.now (spec.levels names.now left) so_far ts.now) }
 {
     let mut all = so_far;
@@ -392,7 +472,12 @@ fn args<'a>(alloc: Global, names: &[Text], left: usize, ts: &'a [Token]) -> Read
 /// assign { "," assign }
 #[cycle(syntax)]
 #[tactic(auto, unfolding(c_grammar::specs::Reading::read_some_args))]
-fn some_args<'a>(alloc: Global, names: &[Text], left: usize, ts: &'a [Token]) -> Read<'a, List<Expr>>
+fn some_args<'a>(
+    alloc: Global,
+    names: &[Text],
+    left: usize,
+    ts: &'a [Token],
+) -> Read<'a, List<Expr>>
     ensures { Gives (λ x. (x.0, x.1.now)) result (spec.read_some_args names.now (spec.levels names.now left) ts.now) }
 {
     let (first, rest) = assign(alloc, names, left, ts)?;

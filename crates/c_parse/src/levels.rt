@@ -37,7 +37,10 @@ pub fn no_either<'a>(alloc: Global, names: &[Text], ts: &'a [Token]) -> Read<'a,
     if begins_either(names, ts) {
         return Err(deep_at(ts));
     }
-    Ok((Either::Unnamed(Abstract::Plain(List::new(alloc), List::new(alloc))), ts))
+    Ok((
+        Either::Unnamed(Abstract::Plain(List::new(alloc), List::new(alloc))),
+        ts,
+    ))
 }
 
 /// Whether `(` and a name stand next.

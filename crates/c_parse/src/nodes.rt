@@ -9,8 +9,8 @@ ghost use Rattle.c_grammar.specs.Grammar as grammar;
 ghost use Rattle.c_grammar.specs.Reading as spec;
 
 use c_ast::{
-    Abstract, Access, AssignOp, Declarator, Expr, First, Link, Name, Param, Spec, Star, StepOp, Stmt, Suffix, TypeName,
-    UnOp,
+    Abstract, Access, AssignOp, Declarator, Expr, First, Link, Name, Param, Spec, Star, StepOp,
+    Stmt, Suffix, TypeName, UnOp,
 };
 use c_grammar::either::Either;
 use cm_base::{List, NoMemory, Place};
@@ -66,13 +66,29 @@ pub fn joined(alloc: Global, first: Expr, more: List<Link>) -> Result<Expr, Allo
     Ok(Expr::Binary(Boxed::new(alloc, first)?, more))
 }
 
-pub fn assignment(alloc: Global, op: (Place, AssignOp), to: Expr, value: Expr) -> Result<Expr, AllocError>
+pub fn assignment(
+    alloc: Global,
+    op: (Place, AssignOp),
+    to: Expr,
+    value: Expr,
+) -> Result<Expr, AllocError>
     ensures { IfOk result (λ e. e ≡ exprs.Assign op.0 op.1 to value) }
 {
-    Ok(Expr::Assign(op.0, op.1, Boxed::new(alloc, to)?, Boxed::new(alloc, value)?))
+    Ok(Expr::Assign(
+        op.0,
+        op.1,
+        Boxed::new(alloc, to)?,
+        Boxed::new(alloc, value)?,
+    ))
 }
 
-pub fn choice(alloc: Global, place: Place, test: Expr, holds: Expr, fails: Expr) -> Result<Expr, AllocError>
+pub fn choice(
+    alloc: Global,
+    place: Place,
+    test: Expr,
+    holds: Expr,
+    fails: Expr,
+) -> Result<Expr, AllocError>
     ensures { IfOk result (λ e. e ≡ exprs.Choice place test holds fails) }
 {
     Ok(Expr::Choice(
@@ -83,7 +99,12 @@ pub fn choice(alloc: Global, place: Place, test: Expr, holds: Expr, fails: Expr)
     ))
 }
 
-pub fn conversion(alloc: Global, place: Place, to: TypeName, value: Expr) -> Result<Expr, AllocError>
+pub fn conversion(
+    alloc: Global,
+    place: Place,
+    to: TypeName,
+    value: Expr,
+) -> Result<Expr, AllocError>
     ensures { IfOk result (λ e. e ≡ exprs.Cast place to value) }
 {
     Ok(Expr::Cast(place, to, Boxed::new(alloc, value)?))
@@ -153,7 +174,9 @@ pub fn either_around(
 {
     match inner {
         Either::Named(inner) => Ok(Either::Named(around(alloc, before, place, inner, after)?)),
-        Either::Unnamed(inner) => Ok(Either::Unnamed(abstract_around(alloc, before, place, inner, after)?)),
+        Either::Unnamed(inner) => Ok(Either::Unnamed(abstract_around(
+            alloc, before, place, inner, after,
+        )?)),
     }
 }
 

@@ -1,8 +1,12 @@
 //! The parser.
 
-ghost use Rattle.std.specs.Prelude.{◌≡◌, IfOk};
+ghost use Rattle.std.specs.Prelude.{◌≡◌, ℕ, List, Some, None, Err, IfOk};
+ghost use Rattle.cm_base.specs.declared.place.Place as the_place;
+ghost use Rattle.c_ast.specs.declared.stmt.External as tree;
 ghost use Rattle.c_grammar.specs.Units.{Derives};
-ghost use Rattle.c_parse.specs.Answer.{Answers, place_left, read_whole, told_error};
+ghost use Rattle.c_grammar.specs.Nesting.{deep_unit};
+ghost use Rattle.c_parse.specs.declared.parser.SyntaxFault.TheVariants as fault;
+ghost use Rattle.c_parse.specs.Answer.{Answers, GivesFault, GivesUnit, place_left, read_whole, told_error};
 
 use crate::units::unit;
 use c_ast::Unit;
@@ -10,6 +14,7 @@ use c_grammar::laws::sound_law;
 use c_grammar::tokens::{Fault, ParseError, fault_at};
 use c_lex::token::Token;
 use cm_base::Place;
+use grammar_laws::laws::{complete_law, deep_law};
 use std::alloc::Global;
 use thiserror::Error;
 
@@ -81,7 +86,16 @@ pub fn parse(alloc: Global, tokens: &[Token]) -> Result<Unit, SyntaxFault>
     ensures reads { Answers tokens.now result (read_whole tokens.now) }
     // A unit that is answered derives.
     ensures found { IfOk result (λ unit. Derives tokens.now unit.parts) }
+    // A unit that the tokens derive is answered if no token of it is nested more than 200 deep, unless memory runs out.
+    ensures only { (all : List tree.External) (d : Derives tokens.now all) → deep_unit d 200 ≡ None → GivesUnit result all }
+    // Of any other unit that they derive the first token that is nested deeper is a fault of code 11. Here left is the number
+    // of tokens from that one to the end.
+    ensures deep { (all : List tree.External) (d : Derives tokens.now all) (left : ℕ) → deep_unit d 200 ≡ Some left → GivesFault result 11 (place_left left tokens.now) }
+    // Code 10 comes only where the tokens derive no unit.
+    ensures none { (place : the_place.Place) → result ≡ Err (fault.At 10 place) → (all : List tree.External) → Derives tokens.now all → ⊥ }
 {
     sound_law();
+    complete_law();
+    deep_law();
     whole(alloc, tokens)
 }

@@ -17,7 +17,12 @@ use std::alloc::Global;
 
 /// [ expr ]
 #[tactic(auto, unfolding(c_grammar::specs::Reading::read_opt_expr))]
-fn opt_expr<'a>(alloc: Global, names: &[Text], left: usize, ts: &'a [Token]) -> Read<'a, Option<Expr>>
+fn opt_expr<'a>(
+    alloc: Global,
+    names: &[Text],
+    left: usize,
+    ts: &'a [Token],
+) -> Read<'a, Option<Expr>>
     ensures { Gives (λ x. (x.0, x.1.now)) result (spec.read_opt_expr names.now (spec.levels names.now left) ts.now) }
 {
     if begins_expr(names, ts) {
@@ -80,7 +85,13 @@ pub fn block<'a>(alloc: Global, names: &[Text], left: usize, ts: &'a [Token]) ->
 /// decl | stmt, after others.
 #[cycle(stmts)]
 #[tactic(auto, unfolding(c_grammar::specs::Reading::read_item_item))]
-fn item_item<'a>(alloc: Global, names: &[Text], left: usize, so_far: List<Item>, ts: &'a [Token]) -> Read<'a, List<Item>>
+fn item_item<'a>(
+    alloc: Global,
+    names: &[Text],
+    left: usize,
+    so_far: List<Item>,
+    ts: &'a [Token],
+) -> Read<'a, List<Item>>
     ensures { Gives (λ x. (x.0, x.1.now)) result (spec.read_item_item names.now (spec.levels names.now left) so_far ts.now) }
 {
     let mut all = so_far;
@@ -92,7 +103,13 @@ fn item_item<'a>(alloc: Global, names: &[Text], left: usize, so_far: List<Item>,
 /// { decl | stmt }
 #[cycle(stmts)]
 #[tactic(auto, using(crate::proofs::LevelLaws::repeat_rules), unfolding(c_grammar::specs::Reading::read_items))]
-fn items<'a>(alloc: Global, names: &[Text], left: usize, so_far: List<Item>, ts: &'a [Token]) -> Read<'a, List<Item>>
+fn items<'a>(
+    alloc: Global,
+    names: &[Text],
+    left: usize,
+    so_far: List<Item>,
+    ts: &'a [Token],
+) -> Read<'a, List<Item>>
     ensures { Gives (λ x. (x.0, x.1.now)) result (spec.read_items names.now (spec.levels names.now left) so_far ts.now) }
 {
     let mut all = so_far;
@@ -235,7 +252,13 @@ fn if_stmt<'a>(alloc: Global, names: &[Text], left: usize, ts: &'a [Token]) -> R
 
 /// [ "else" stmt ], after the rest of its `if`.
 #[cycle(stmts)]
-fn opt_else<'a>(alloc: Global, names: &[Text], left: usize, half: Half, ts: &'a [Token]) -> Read<'a, Stmt>
+fn opt_else<'a>(
+    alloc: Global,
+    names: &[Text],
+    left: usize,
+    half: Half,
+    ts: &'a [Token],
+) -> Read<'a, Stmt>
     ensures { Gives (λ x. (x.0, x.1.now)) result (parts_of.read_opt_else names.now (spec.levels names.now left) half.place half.test half.holds ts.now) }
 {
     if next_is(ts, Sign::Word(Keyword::Else)) {
@@ -247,7 +270,13 @@ fn opt_else<'a>(alloc: Global, names: &[Text], left: usize, half: Half, ts: &'a 
 /// "else" stmt, after the rest of its `if`.
 #[cycle(stmts)]
 #[tactic(auto, unfolding(c_grammar::specs::Reading::read_if_else))]
-fn if_else<'a>(alloc: Global, names: &[Text], left: usize, half: Half, ts: &'a [Token]) -> Read<'a, Stmt>
+fn if_else<'a>(
+    alloc: Global,
+    names: &[Text],
+    left: usize,
+    half: Half,
+    ts: &'a [Token],
+) -> Read<'a, Stmt>
     ensures { Gives (λ x. (x.0, x.1.now)) result (spec.read_if_else names.now (spec.levels names.now left) half.place half.test half.holds ts.now) }
 {
     let (_else, rest) = expect(ts, Sign::Word(Keyword::Else))?;
@@ -281,7 +310,14 @@ fn do_stmt<'a>(alloc: Global, names: &[Text], left: usize, ts: &'a [Token]) -> R
 }
 
 /// "while" "(" expr ")" ";", after "do" stmt.
-fn do_end<'a>(alloc: Global, names: &[Text], left: usize, place: Place, body: Stmt, ts: &'a [Token]) -> Read<'a, Stmt>
+fn do_end<'a>(
+    alloc: Global,
+    names: &[Text],
+    left: usize,
+    place: Place,
+    body: Stmt,
+    ts: &'a [Token],
+) -> Read<'a, Stmt>
     ensures { Gives (λ x. (x.0, x.1.now)) result (parts_of.read_do_end names.now (spec.levels names.now left) place body ts.now) }
 {
     let (_while, rest) = expect(ts, Sign::Word(Keyword::While))?;
@@ -304,12 +340,29 @@ fn for_stmt<'a>(alloc: Global, names: &[Text], left: usize, ts: &'a [Token]) -> 
     let (test, rest) = opt_expr(alloc, names, left, rest)?;
     let (_end, rest) = expect(rest, Sign::Mark(Punct::Semicolon))?;
     let (next, rest) = opt_expr(alloc, names, left, rest)?;
-    for_body(alloc, names, left, Turns { place, first, test, next }, rest)
+    for_body(
+        alloc,
+        names,
+        left,
+        Turns {
+            place,
+            first,
+            test,
+            next,
+        },
+        rest,
+    )
 }
 
 /// ")" stmt, after what rules its turns.
 #[cycle(stmts)]
-fn for_body<'a>(alloc: Global, names: &[Text], left: usize, turns: Turns, ts: &'a [Token]) -> Read<'a, Stmt>
+fn for_body<'a>(
+    alloc: Global,
+    names: &[Text],
+    left: usize,
+    turns: Turns,
+    ts: &'a [Token],
+) -> Read<'a, Stmt>
     ensures { Gives (λ x. (x.0, x.1.now)) result (parts_of.read_for_body (spec.levels names.now left) turns.place turns.first turns.test turns.next ts.now) }
 {
     let (_close, rest) = expect(ts, Sign::Mark(Punct::ParenClose))?;
@@ -336,7 +389,13 @@ fn switch_stmt<'a>(alloc: Global, names: &[Text], left: usize, ts: &'a [Token]) 
 /// label | decl | stmt, after others.
 #[cycle(stmts)]
 #[tactic(auto, unfolding(c_grammar::specs::Reading::read_part_item))]
-fn part_item<'a>(alloc: Global, names: &[Text], left: usize, so_far: List<Part>, ts: &'a [Token]) -> Read<'a, List<Part>>
+fn part_item<'a>(
+    alloc: Global,
+    names: &[Text],
+    left: usize,
+    so_far: List<Part>,
+    ts: &'a [Token],
+) -> Read<'a, List<Part>>
     ensures { Gives (λ x. (x.0, x.1.now)) result (spec.read_part_item names.now (spec.levels names.now left) so_far ts.now) }
 {
     let mut all = so_far;
@@ -348,7 +407,13 @@ fn part_item<'a>(alloc: Global, names: &[Text], left: usize, so_far: List<Part>,
 /// { label | decl | stmt }
 #[cycle(stmts)]
 #[tactic(auto, using(crate::proofs::LevelLaws::repeat_rules), unfolding(c_grammar::specs::Reading::read_parts))]
-fn parts<'a>(alloc: Global, names: &[Text], left: usize, so_far: List<Part>, ts: &'a [Token]) -> Read<'a, List<Part>>
+fn parts<'a>(
+    alloc: Global,
+    names: &[Text],
+    left: usize,
+    so_far: List<Part>,
+    ts: &'a [Token],
+) -> Read<'a, List<Part>>
     ensures { Gives (λ x. (x.0, x.1.now)) result (spec.read_parts names.now (spec.levels names.now left) so_far ts.now) }
 {
     let mut all = so_far;

@@ -27,7 +27,9 @@ fn has(alloc: Global, text: &str, parts: usize) -> bool {
 /// Whether the text has this fault in its first line.
 fn faults(alloc: Global, text: &str, code: u8, col: u32) -> bool {
     match parsed(alloc, text) {
-        Err(SyntaxFault::At { code: found, place }) => found == code && place.line == 1 && place.col == col,
+        Err(SyntaxFault::At { code: found, place }) => found == code
+            && place.line == 1
+            && place.col == col,
         _ => false,
     }
 }
@@ -36,11 +38,35 @@ fn faults(alloc: Global, text: &str, code: u8, col: u32) -> bool {
 fn declarations(rt: HostRuntime) -> Result<(), Fail> {
     let alloc = rt.alloc();
     assert!(rt; has(alloc, "", 0));
-    assert!(rt; has(alloc, "static inline unsigned long f(void); int; int a = 1, b[2] = { 1, { 2 }, };", 3));
-    assert!(rt; has(alloc, "struct s { int a, *b; char c[3]; } x; struct s; enum e { A, B = 2, }; enum e y;", 4));
-    assert!(rt; has(alloc, "__attribute__((a, b(\"c\"))) int * const __attribute__((d)) e __attribute__((f)) = 0;", 1));
+    assert!(rt;
+        has(
+            alloc,
+            "static inline unsigned long f(void); int; int a = 1, b[2] = { 1, { 2 }, };",
+            3
+        )
+    );
+    assert!(rt;
+        has(
+            alloc,
+            "struct s { int a, *b; char c[3]; } x; struct s; enum e { A, B = 2, }; enum e y;",
+            4
+        )
+    );
+    assert!(rt;
+        has(
+            alloc,
+            "__attribute__((a, b(\"c\"))) int * const __attribute__((d)) e __attribute__((f)) = 0;",
+            1
+        )
+    );
     assert!(rt; has(alloc, "int (*f)(int);", 1));
-    assert!(rt; has(alloc, "void f(int (*)(int), int (x), int ([3]), int (int), int (), int *);", 1));
+    assert!(rt;
+        has(
+            alloc,
+            "void f(int (*)(int), int (x), int ([3]), int (int), int (), int *);",
+            1
+        )
+    );
     assert!(rt; has(alloc, "int * const volatile *p; const int q;", 2));
     assert!(rt; faults(alloc, "int const p, (const q);", 10, 15));
     assert!(rt; has(alloc, "typedef int t; t a; void f(t (t));", 3));
@@ -54,10 +80,34 @@ fn declarations(rt: HostRuntime) -> Result<(), Fail> {
 #[test]
 fn statements(rt: HostRuntime) -> Result<(), Fail> {
     let alloc = rt.alloc();
-    assert!(rt; has(alloc, "void f(void) { ; { } int a; a; return; return a; }", 1));
-    assert!(rt; has(alloc, "void f(int a) { while (a) { break; continue; } do a; while (a); if (a) ; else ; }", 1));
-    assert!(rt; has(alloc, "void f(int a) { for (int i = 0; i; i++) ; for (a = 0; ; ) ; for (;;) ; }", 1));
-    assert!(rt; has(alloc, "void f(int a) { switch (a) { case 1: a; default: int b; } }", 1));
+    assert!(rt;
+        has(
+            alloc,
+            "void f(void) { ; { } int a; a; return; return a; }",
+            1
+        )
+    );
+    assert!(rt;
+        has(
+            alloc,
+            "void f(int a) { while (a) { break; continue; } do a; while (a); if (a) ; else ; }",
+            1
+        )
+    );
+    assert!(rt;
+        has(
+            alloc,
+            "void f(int a) { for (int i = 0; i; i++) ; for (a = 0; ; ) ; for (;;) ; }",
+            1
+        )
+    );
+    assert!(rt;
+        has(
+            alloc,
+            "void f(int a) { switch (a) { case 1: a; default: int b; } }",
+            1
+        )
+    );
     assert!(rt; faults(alloc, "void f(int a) { case 1: a; }", 10, 17));
     assert!(rt; faults(alloc, "void f(int a) { x: a; }", 10, 18));
     assert!(rt; faults(alloc, "void f(int a) { else ; }", 10, 17));
@@ -67,10 +117,28 @@ fn statements(rt: HostRuntime) -> Result<(), Fail> {
 #[test]
 fn expressions(rt: HostRuntime) -> Result<(), Fail> {
     let alloc = rt.alloc();
-    assert!(rt; has(alloc, "int a = f(1, 2)[3].b->c++--, d = ++*&-~!+e, g = \"s\"[0] + 'c';", 1));
-    assert!(rt; has(alloc, "int a = b * c / d % e + f - g << h >> i < j > k <= l >= m == n != o & p ^ q | r && s || t;", 1));
+    assert!(rt;
+        has(
+            alloc,
+            "int a = f(1, 2)[3].b->c++--, d = ++*&-~!+e, g = \"s\"[0] + 'c';",
+            1
+        )
+    );
+    assert!(rt;
+        has(
+            alloc,
+            "int a = b * c / d % e + f - g << h >> i < j > k <= l >= m == n != o & p ^ q | r && s || t;",
+            1
+        )
+    );
     assert!(rt; has(alloc, "int a = b ? c, d : e ? f : g, h = i = j += k;", 1));
-    assert!(rt; has(alloc, "typedef int t; int a = (t)b + (c) - sizeof (t) - sizeof (a) - sizeof a++;", 2));
+    assert!(rt;
+        has(
+            alloc,
+            "typedef int t; int a = (t)b + (c) - sizeof (t) - sizeof (a) - sizeof a++;",
+            2
+        )
+    );
     assert!(rt; has(alloc, "typedef int t; int a = (t (*)(t))b + (int [3])c;", 2));
     assert!(rt; faults(alloc, "typedef int t; int a = (t);", 10, 27));
     assert!(rt; faults(alloc, "int a = b c;", 10, 11));
@@ -99,7 +167,8 @@ fn has_inner_else(stmt: &Stmt) -> bool {
 /// Whether an expression is a name and two operands after it.
 fn is_flat(stmt: &Stmt) -> bool {
     match stmt {
-        Stmt::Expr(Expr::Binary(first, more)) => matches!(first.get(), Expr::Name(_)) && more.len() == 2,
+        Stmt::Expr(Expr::Binary(first, more)) => matches!(first.get(), Expr::Name(_))
+            && more.len() == 2,
         _ => false,
     }
 }

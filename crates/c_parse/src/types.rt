@@ -19,7 +19,12 @@ use std::alloc::Global;
 /// typename = specs abstract
 #[cycle(syntax)]
 #[tactic(auto, unfolding(c_grammar::specs::Reading::read_typename))]
-pub fn typename<'a>(alloc: Global, names: &[Text], left: usize, ts: &'a [Token]) -> Read<'a, TypeName>
+pub fn typename<'a>(
+    alloc: Global,
+    names: &[Text],
+    left: usize,
+    ts: &'a [Token],
+) -> Read<'a, TypeName>
     ensures { Gives (λ x. (x.0, x.1.now)) result (spec.read_typename names.now (spec.levels names.now left) ts.now) }
 {
     let (specs, rest) = specs(alloc, names, left, ts)?;
@@ -30,7 +35,12 @@ pub fn typename<'a>(alloc: Global, names: &[Text], left: usize, ts: &'a [Token])
 /// specs = spec { spec }
 #[cycle(syntax)]
 #[tactic(auto, unfolding(c_grammar::specs::Reading::read_specs))]
-pub fn specs<'a>(alloc: Global, names: &[Text], left: usize, ts: &'a [Token]) -> Read<'a, List<Spec>>
+pub fn specs<'a>(
+    alloc: Global,
+    names: &[Text],
+    left: usize,
+    ts: &'a [Token],
+) -> Read<'a, List<Spec>>
     ensures { Gives (λ x. (x.0, x.1.now)) result (spec.read_specs names.now (spec.levels names.now left) ts.now) }
 {
     let (first, rest) = spec(alloc, names, left, ts)?;
@@ -40,7 +50,13 @@ pub fn specs<'a>(alloc: Global, names: &[Text], left: usize, ts: &'a [Token]) ->
 /// spec, after others.
 #[cycle(syntax)]
 #[tactic(auto, unfolding(c_grammar::specs::Reading::read_spec_item))]
-fn spec_item<'a>(alloc: Global, names: &[Text], left: usize, so_far: List<Spec>, ts: &'a [Token]) -> Read<'a, List<Spec>>
+fn spec_item<'a>(
+    alloc: Global,
+    names: &[Text],
+    left: usize,
+    so_far: List<Spec>,
+    ts: &'a [Token],
+) -> Read<'a, List<Spec>>
     ensures { Gives (λ x. (x.0, x.1.now)) result (spec.read_spec_item names.now (spec.levels names.now left) so_far ts.now) }
 {
     let mut all = so_far;
@@ -52,7 +68,13 @@ fn spec_item<'a>(alloc: Global, names: &[Text], left: usize, so_far: List<Spec>,
 /// { spec }
 #[cycle(syntax)]
 #[tactic(auto, using(crate::proofs::LevelLaws::repeat_rules), unfolding(c_grammar::specs::Reading::read_more_specs))]
-fn more_specs<'a>(alloc: Global, names: &[Text], left: usize, so_far: List<Spec>, ts: &'a [Token]) -> Read<'a, List<Spec>>
+fn more_specs<'a>(
+    alloc: Global,
+    names: &[Text],
+    left: usize,
+    so_far: List<Spec>,
+    ts: &'a [Token],
+) -> Read<'a, List<Spec>>
     ensures { Gives (λ x. (x.0, x.1.now)) result (spec.read_more_specs names.now (spec.levels names.now left) so_far ts.now) }
 {
     let mut all = so_far;
@@ -99,7 +121,12 @@ fn spec<'a>(alloc: Global, names: &[Text], left: usize, ts: &'a [Token]) -> Read
 /// struct = "struct" [ NAME ] "{" member { member } "}" | "struct" NAME
 #[cycle(syntax)]
 #[tactic(auto, using(crate::proofs::LevelLaws::level_rules), unfolding(c_grammar::specs::Reading::read_structs))]
-fn struct_spec<'a>(alloc: Global, names: &[Text], left: usize, ts: &'a [Token]) -> Read<'a, StructSpec>
+fn struct_spec<'a>(
+    alloc: Global,
+    names: &[Text],
+    left: usize,
+    ts: &'a [Token],
+) -> Read<'a, StructSpec>
     ensures { Gives (λ x. (x.0, x.1.now)) result ((spec.levels names.now left).structs ts.now) }
 {
     if left == 0 {
@@ -117,7 +144,13 @@ fn struct_spec<'a>(alloc: Global, names: &[Text], left: usize, ts: &'a [Token]) 
 /// NAME "{" member { member } "}" | NAME, after `struct`.
 #[cycle(syntax)]
 #[tactic(auto, unfolding(c_grammar::specs::Reading::read_struct_named))]
-fn struct_named<'a>(alloc: Global, names: &[Text], left: usize, place: Place, ts: &'a [Token]) -> Read<'a, StructSpec>
+fn struct_named<'a>(
+    alloc: Global,
+    names: &[Text],
+    left: usize,
+    place: Place,
+    ts: &'a [Token],
+) -> Read<'a, StructSpec>
     ensures { Gives (λ x. (x.0, x.1.now)) result (spec.read_struct_named names.now (spec.levels names.now left) place ts.now) }
 {
     let (tag, rest) = take_name(alloc, names, ts)?;
@@ -131,7 +164,12 @@ fn struct_named<'a>(alloc: Global, names: &[Text], left: usize, place: Place, ts
 /// "{" member { member } "}"
 #[cycle(syntax)]
 #[tactic(auto, unfolding(c_grammar::specs::Reading::read_members))]
-fn members<'a>(alloc: Global, names: &[Text], left: usize, ts: &'a [Token]) -> Read<'a, List<Member>>
+fn members<'a>(
+    alloc: Global,
+    names: &[Text],
+    left: usize,
+    ts: &'a [Token],
+) -> Read<'a, List<Member>>
     ensures { Gives (λ x. (x.0, x.1.now)) result (spec.read_members names.now (spec.levels names.now left) ts.now) }
 {
     let (_open, rest) = expect(ts, Sign::Mark(Punct::BraceOpen))?;
@@ -144,7 +182,13 @@ fn members<'a>(alloc: Global, names: &[Text], left: usize, ts: &'a [Token]) -> R
 /// member, after others.
 #[cycle(syntax)]
 #[tactic(auto, unfolding(c_grammar::specs::Reading::read_member_item))]
-fn member_item<'a>(alloc: Global, names: &[Text], left: usize, so_far: List<Member>, ts: &'a [Token]) -> Read<'a, List<Member>>
+fn member_item<'a>(
+    alloc: Global,
+    names: &[Text],
+    left: usize,
+    so_far: List<Member>,
+    ts: &'a [Token],
+) -> Read<'a, List<Member>>
     ensures { Gives (λ x. (x.0, x.1.now)) result (spec.read_member_item names.now (spec.levels names.now left) so_far ts.now) }
 {
     let mut all = so_far;
@@ -156,7 +200,13 @@ fn member_item<'a>(alloc: Global, names: &[Text], left: usize, so_far: List<Memb
 /// { member }
 #[cycle(syntax)]
 #[tactic(auto, using(crate::proofs::LevelLaws::repeat_rules), unfolding(c_grammar::specs::Reading::read_more_members))]
-fn more_members<'a>(alloc: Global, names: &[Text], left: usize, so_far: List<Member>, ts: &'a [Token]) -> Read<'a, List<Member>>
+fn more_members<'a>(
+    alloc: Global,
+    names: &[Text],
+    left: usize,
+    so_far: List<Member>,
+    ts: &'a [Token],
+) -> Read<'a, List<Member>>
     ensures { Gives (λ x. (x.0, x.1.now)) result (spec.read_more_members names.now (spec.levels names.now left) so_far ts.now) }
 {
     let mut all = so_far;
@@ -188,7 +238,13 @@ fn member<'a>(alloc: Global, names: &[Text], left: usize, ts: &'a [Token]) -> Re
 /// "," declarator
 #[cycle(syntax)]
 #[tactic(auto, unfolding(c_grammar::specs::Reading::read_declarator_item))]
-fn declarator_item<'a>(alloc: Global, names: &[Text], left: usize, so_far: List<Declarator>, ts: &'a [Token]) -> Read<'a, List<Declarator>>
+fn declarator_item<'a>(
+    alloc: Global,
+    names: &[Text],
+    left: usize,
+    so_far: List<Declarator>,
+    ts: &'a [Token],
+) -> Read<'a, List<Declarator>>
     ensures { Gives (λ x. (x.0, x.1.now)) result (spec.read_declarator_item names.now (spec.levels names.now left) so_far ts.now) }
 {
     let mut all = so_far;
@@ -201,7 +257,13 @@ fn declarator_item<'a>(alloc: Global, names: &[Text], left: usize, so_far: List<
 /// { "," declarator }
 #[cycle(syntax)]
 #[tactic(auto, using(crate::proofs::LevelLaws::repeat_rules), unfolding(c_grammar::specs::Reading::read_more_declarators))]
-fn more_declarators<'a>(alloc: Global, names: &[Text], left: usize, so_far: List<Declarator>, ts: &'a [Token]) -> Read<'a, List<Declarator>>
+fn more_declarators<'a>(
+    alloc: Global,
+    names: &[Text],
+    left: usize,
+    so_far: List<Declarator>,
+    ts: &'a [Token],
+) -> Read<'a, List<Declarator>>
     ensures { Gives (λ x. (x.0, x.1.now)) result (spec.read_more_declarators names.now (spec.levels names.now left) so_far ts.now) }
 {
     let mut all = so_far;
@@ -234,7 +296,13 @@ fn enum_spec<'a>(alloc: Global, names: &[Text], left: usize, ts: &'a [Token]) ->
 /// NAME "{" enumr { "," enumr } [ "," ] "}" | NAME, after `enum`.
 #[cycle(syntax)]
 #[tactic(auto, unfolding(c_grammar::specs::Reading::read_enum_named))]
-fn enum_named<'a>(alloc: Global, names: &[Text], left: usize, place: Place, ts: &'a [Token]) -> Read<'a, EnumSpec>
+fn enum_named<'a>(
+    alloc: Global,
+    names: &[Text],
+    left: usize,
+    place: Place,
+    ts: &'a [Token],
+) -> Read<'a, EnumSpec>
     ensures { Gives (λ x. (x.0, x.1.now)) result (spec.read_enum_named names.now (spec.levels names.now left) place ts.now) }
 {
     let (tag, rest) = take_name(alloc, names, ts)?;
@@ -248,7 +316,12 @@ fn enum_named<'a>(alloc: Global, names: &[Text], left: usize, place: Place, ts: 
 /// "{" enumr { "," enumr } [ "," ] "}"
 #[cycle(syntax)]
 #[tactic(auto, unfolding(c_grammar::specs::Reading::read_enumrs))]
-fn enumrs<'a>(alloc: Global, names: &[Text], left: usize, ts: &'a [Token]) -> Read<'a, List<Enumerator>>
+fn enumrs<'a>(
+    alloc: Global,
+    names: &[Text],
+    left: usize,
+    ts: &'a [Token],
+) -> Read<'a, List<Enumerator>>
     ensures { Gives (λ x. (x.0, x.1.now)) result (spec.read_enumrs names.now (spec.levels names.now left) ts.now) }
 {
     let (_open, rest) = expect(ts, Sign::Mark(Punct::BraceOpen))?;
@@ -262,7 +335,13 @@ fn enumrs<'a>(alloc: Global, names: &[Text], left: usize, ts: &'a [Token]) -> Re
 /// "," enumr
 #[cycle(syntax)]
 #[tactic(auto, unfolding(c_grammar::specs::Reading::read_enumr_item))]
-fn enumr_item<'a>(alloc: Global, names: &[Text], left: usize, so_far: List<Enumerator>, ts: &'a [Token]) -> Read<'a, List<Enumerator>>
+fn enumr_item<'a>(
+    alloc: Global,
+    names: &[Text],
+    left: usize,
+    so_far: List<Enumerator>,
+    ts: &'a [Token],
+) -> Read<'a, List<Enumerator>>
     ensures { Gives (λ x. (x.0, x.1.now)) result (spec.read_enumr_item names.now (spec.levels names.now left) so_far ts.now) }
 {
     let mut all = so_far;
@@ -275,7 +354,13 @@ fn enumr_item<'a>(alloc: Global, names: &[Text], left: usize, so_far: List<Enume
 /// { "," enumr }
 #[cycle(syntax)]
 #[tactic(auto, using(crate::proofs::LevelLaws::repeat_rules), unfolding(c_grammar::specs::Reading::read_more_enumrs))]
-fn more_enumrs<'a>(alloc: Global, names: &[Text], left: usize, so_far: List<Enumerator>, ts: &'a [Token]) -> Read<'a, List<Enumerator>>
+fn more_enumrs<'a>(
+    alloc: Global,
+    names: &[Text],
+    left: usize,
+    so_far: List<Enumerator>,
+    ts: &'a [Token],
+) -> Read<'a, List<Enumerator>>
     ensures { Gives (λ x. (x.0, x.1.now)) result (spec.read_more_enumrs names.now (spec.levels names.now left) so_far ts.now) }
 {
     let mut all = so_far;
@@ -307,10 +392,22 @@ fn enumr<'a>(alloc: Global, names: &[Text], left: usize, ts: &'a [Token]) -> Rea
 /// "=" cond, after its NAME.
 #[cycle(syntax)]
 #[tactic(auto, unfolding(c_grammar::specs::Reading::read_enumr_value))]
-fn enumr_value<'a>(alloc: Global, names: &[Text], left: usize, name: Name, ts: &'a [Token]) -> Read<'a, Enumerator>
+fn enumr_value<'a>(
+    alloc: Global,
+    names: &[Text],
+    left: usize,
+    name: Name,
+    ts: &'a [Token],
+) -> Read<'a, Enumerator>
     ensures { Gives (λ x. (x.0, x.1.now)) result (spec.read_enumr_value names.now (spec.levels names.now left) name ts.now) }
 {
     let (_assign, rest) = expect(ts, Sign::Mark(Punct::Assign))?;
     let (value, rest) = cond(alloc, names, left, rest)?;
-    Ok((Enumerator { name, value: Some(value) }, rest))
+    Ok((
+        Enumerator {
+            name,
+            value: Some(value),
+        },
+        rest,
+    ))
 }

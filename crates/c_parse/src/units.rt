@@ -25,37 +25,89 @@ pub struct SoFar {
 
 /// block, after its specifiers, declarator and attributes.
 #[tactic(auto, unfolding(c_grammar::specs::Reading::read_function_body))]
-fn function_body<'a>(alloc: Global, names: &[Text], left: usize, specs: List<Spec>, declarator: Declarator, attrs: List<Attr>, ts: &'a [Token]) -> Read<'a, External>
+fn function_body<'a>(
+    alloc: Global,
+    names: &[Text],
+    left: usize,
+    specs: List<Spec>,
+    declarator: Declarator,
+    attrs: List<Attr>,
+    ts: &'a [Token],
+) -> Read<'a, External>
     ensures { Gives (λ x. (x.0, x.1.now)) result (spec.read_function_body names.now (spec.levels names.now left) specs declarator attrs ts.now) }
 {
     let (body, rest) = block(alloc, names, left, ts)?;
-    Ok((External::Function(Function { specs, declarator, attrs, body }), rest))
+    Ok((
+        External::Function(Function {
+            specs,
+            declarator,
+            attrs,
+            body,
+        }),
+        rest,
+    ))
 }
 
 /// [ "=" initial ], after the first declarator and its attributes.
 #[tactic(auto, unfolding(c_grammar::specs::Reading::read_first_init))]
-fn first_init<'a>(alloc: Global, names: &[Text], left: usize, declarator: Declarator, attrs: List<Attr>, ts: &'a [Token]) -> Read<'a, Init>
+fn first_init<'a>(
+    alloc: Global,
+    names: &[Text],
+    left: usize,
+    declarator: Declarator,
+    attrs: List<Attr>,
+    ts: &'a [Token],
+) -> Read<'a, Init>
     ensures { Gives (λ x. (x.0, x.1.now)) result (spec.read_first_init (spec.levels names.now left) declarator attrs ts.now) }
 {
     if next_is(ts, Sign::Mark(Punct::Assign)) {
         return first_value(alloc, names, left, declarator, attrs, ts);
     }
-    Ok((Init { declarator, attrs, value: None }, ts))
+    Ok((
+        Init {
+            declarator,
+            attrs,
+            value: None,
+        },
+        ts,
+    ))
 }
 
 /// "=" initial, after the first declarator and its attributes.
 #[tactic(auto, unfolding(c_grammar::specs::Reading::read_first_value))]
-fn first_value<'a>(alloc: Global, names: &[Text], left: usize, declarator: Declarator, attrs: List<Attr>, ts: &'a [Token]) -> Read<'a, Init>
+fn first_value<'a>(
+    alloc: Global,
+    names: &[Text],
+    left: usize,
+    declarator: Declarator,
+    attrs: List<Attr>,
+    ts: &'a [Token],
+) -> Read<'a, Init>
     ensures { Gives (λ x. (x.0, x.1.now)) result (spec.read_first_value (spec.levels names.now left) declarator attrs ts.now) }
 {
     let (_assign, rest) = expect(ts, Sign::Mark(Punct::Assign))?;
     let (value, rest) = initial(alloc, names, left, rest)?;
-    Ok((Init { declarator, attrs, value: Some(value) }, rest))
+    Ok((
+        Init {
+            declarator,
+            attrs,
+            value: Some(value),
+        },
+        rest,
+    ))
 }
 
 /// [ "=" initial ] { "," init } ";", after the first declarator and its attributes.
 #[tactic(auto, unfolding(c_grammar::specs::Reading::read_other_inits))]
-fn other_inits<'a>(alloc: Global, names: &[Text], left: usize, specs: List<Spec>, declarator: Declarator, attrs: List<Attr>, ts: &'a [Token]) -> Read<'a, External>
+fn other_inits<'a>(
+    alloc: Global,
+    names: &[Text],
+    left: usize,
+    specs: List<Spec>,
+    declarator: Declarator,
+    attrs: List<Attr>,
+    ts: &'a [Token],
+) -> Read<'a, External>
     ensures { Gives (λ x. (x.0, x.1.now)) result (spec.read_other_inits names.now (spec.levels names.now left) specs declarator attrs ts.now) }
 {
     let (first, rest) = first_init(alloc, names, left, declarator, attrs, ts)?;
@@ -66,7 +118,15 @@ fn other_inits<'a>(alloc: Global, names: &[Text], left: usize, specs: List<Spec>
 
 /// block | [ "=" initial ] { "," init } ";", after the first declarator and its attributes.
 #[tactic(auto, unfolding(c_grammar::specs::Reading::read_after_attrs))]
-fn after_attrs<'a>(alloc: Global, names: &[Text], left: usize, specs: List<Spec>, declarator: Declarator, attrs: List<Attr>, ts: &'a [Token]) -> Read<'a, External>
+fn after_attrs<'a>(
+    alloc: Global,
+    names: &[Text],
+    left: usize,
+    specs: List<Spec>,
+    declarator: Declarator,
+    attrs: List<Attr>,
+    ts: &'a [Token],
+) -> Read<'a, External>
     ensures { Gives (λ x. (x.0, x.1.now)) result (spec.read_after_attrs names.now (spec.levels names.now left) specs declarator attrs ts.now) }
 {
     if next_is(ts, Sign::Mark(Punct::BraceOpen)) {
@@ -77,7 +137,13 @@ fn after_attrs<'a>(alloc: Global, names: &[Text], left: usize, specs: List<Spec>
 
 /// declarator { attr } and what follows, after the specifiers.
 #[tactic(auto, unfolding(c_grammar::specs::Reading::read_declared))]
-fn declares<'a>(alloc: Global, names: &[Text], left: usize, specs: List<Spec>, ts: &'a [Token]) -> Read<'a, External>
+fn declares<'a>(
+    alloc: Global,
+    names: &[Text],
+    left: usize,
+    specs: List<Spec>,
+    ts: &'a [Token],
+) -> Read<'a, External>
     ensures { Gives (λ x. (x.0, x.1.now)) result (spec.read_declared names.now (spec.levels names.now left) specs ts.now) }
 {
     let (declarator, rest) = declarator(alloc, names, left, ts)?;
@@ -91,12 +157,24 @@ fn bare<'a>(alloc: Global, specs: List<Spec>, ts: &'a [Token]) -> Read<'a, Exter
     ensures { Gives (λ x. (x.0, x.1.now)) result (spec.read_bare specs ts.now) }
 {
     let (_end, rest) = expect(ts, Sign::Mark(Punct::Semicolon))?;
-    Ok((External::Decl(Decl { specs, inits: List::new(alloc) }), rest))
+    Ok((
+        External::Decl(Decl {
+            specs,
+            inits: List::new(alloc),
+        }),
+        rest,
+    ))
 }
 
 /// ";" | declarator { attr } and what follows, after the specifiers.
 #[tactic(auto, unfolding(c_grammar::specs::Reading::read_after_specs))]
-fn after_specs<'a>(alloc: Global, names: &[Text], left: usize, specs: List<Spec>, ts: &'a [Token]) -> Read<'a, External>
+fn after_specs<'a>(
+    alloc: Global,
+    names: &[Text],
+    left: usize,
+    specs: List<Spec>,
+    ts: &'a [Token],
+) -> Read<'a, External>
     ensures { Gives (λ x. (x.0, x.1.now)) result (spec.read_after_specs names.now (spec.levels names.now left) specs ts.now) }
 {
     if next_is(ts, Sign::Mark(Punct::Semicolon)) {
@@ -120,7 +198,10 @@ fn include<'a>(alloc: Global, so_far: SoFar, ts: &'a [Token]) -> Read<'a, SoFar>
     ensures { Gives (λ x. ((x.0.names, x.0.parts), x.1.now)) result (spec.read_include (so_far.names, so_far.parts) ts.now) }
 {
     let (header, rest) = take_include(ts)?;
-    let SoFar { mut names, mut parts } = so_far;
+    let SoFar {
+        mut names,
+        mut parts,
+    } = so_far;
     names.append(header_names(alloc, header.1)?)?;
     parts.push(External::Include(header.0, header.1))?;
     Ok((SoFar { names, parts }, rest))
@@ -131,7 +212,10 @@ fn include<'a>(alloc: Global, so_far: SoFar, ts: &'a [Token]) -> Read<'a, SoFar>
 fn no_include<'a>(alloc: Global, left: usize, so_far: SoFar, ts: &'a [Token]) -> Read<'a, SoFar>
     ensures { Gives (λ x. ((x.0.names, x.0.parts), x.1.now)) result (spec.read_no_include left (so_far.names, so_far.parts) ts.now) }
 {
-    let SoFar { mut names, mut parts } = so_far;
+    let SoFar {
+        mut names,
+        mut parts,
+    } = so_far;
     let (part, rest) = external(alloc, names.as_slice(), left, ts)?;
     names.append(added(alloc, &part)?)?;
     parts.push(part)?;
@@ -154,7 +238,10 @@ fn part_of_unit<'a>(alloc: Global, left: usize, so_far: SoFar, ts: &'a [Token]) 
 pub fn unit<'a>(alloc: Global, left: usize, ts: &'a [Token]) -> Read<'a, SoFar>
     ensures { Gives (λ x. ((x.0.names, x.0.parts), x.1.now)) result (spec.read_unit left ts.now) }
 {
-    let mut all = SoFar { names: List::new(alloc), parts: List::new(alloc) };
+    let mut all = SoFar {
+        names: List::new(alloc),
+        parts: List::new(alloc),
+    };
     let mut rest = ts;
     for _ in 0..ts.len() {
         if rest.is_empty() {
