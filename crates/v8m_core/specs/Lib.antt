@@ -5,3 +5,4 @@ pub mod Step
 pub mod Code
 pub mod Parts
 pub mod Reset
+pub mod Known

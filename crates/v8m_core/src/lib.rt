@@ -2,6 +2,7 @@
 #![tactic(auto)]
 
 mod applying;
+mod decoder;
 mod effect;
 mod gates;
 mod lists;

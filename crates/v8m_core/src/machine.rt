@@ -11,6 +11,7 @@ ghost use Rattle.v8m_core.specs.Reset.{reset_cpu, reset_of};
 
 use crate::Stepped;
 use crate::applying::apply;
+use crate::decoder::Decoder;
 use crate::gates::{align, stop};
 use crate::operands::effect_of;
 use crate::turning::play;
@@ -18,7 +19,7 @@ use cm_base::{Bytes, NoMemory, PLATFORM, Stop};
 use ns_types::{Cpu, Regs, Side, Start, Turn};
 use std::alloc::Global;
 use std::marker::Model;
-use v8m_isa::{Instr, decode};
+use v8m_isa::Instr;
 use v8m_mem::{Memory, is_in_rom};
 
 /// The bytes of Secure ROM and of the Non-secure callable region behind it: 4 MB.
@@ -32,6 +33,7 @@ pub struct Image {
 pub struct Machine {
     memory: Memory,
     cpu: Cpu,
+    decoder: Decoder,
 }
 
 impl Model for Machine {
@@ -82,14 +84,14 @@ fn reset_cpu(memory: &Memory) -> Cpu
 const FIRST_OF_TWO: u16 = 0xE800;
 
 /// The instruction that a halfword is by itself.
-fn narrow(first: u16) -> Option<Instr>
+fn narrow(decoder: &mut Decoder, first: u16) -> Option<Instr>
     ensures { MatchOption result (is_narrow first ≡ false)
         (λ i. (decode_of first 0 ≡ Some (record { instr = i; size = 2 })) × (in_range_of i ≡ true)) }
 {
     if first >= FIRST_OF_TWO {
         return None;
     }
-    match decode(first, 0) {
+    match decoder.decode(first, 0) {
         Some((instr, size)) => { if size == 2 { Some(instr) } else { None } }
         None => None,
     }
@@ -108,7 +110,7 @@ fn act(memory: &mut Memory, cpu: &mut Cpu, instr: &Instr, size: u8) -> Stepped
 
 /// One step in Secure state.
 #[tactic(auto, unfolding(crate::specs::Step::step_of))]
-fn step(memory: &mut Memory, cpu: &mut Cpu) -> Stepped
+fn step(memory: &mut Memory, cpu: &mut Cpu, decoder: &mut Decoder) -> Stepped
     ensures rom { memory.new.rom ≡ memory.old.rom }
     ensures step { step_of memory.old.rom (state cpu.old memory.old.memory) ≡ done cpu.new memory.new.memory result }
 {
@@ -117,13 +119,13 @@ fn step(memory: &mut Memory, cpu: &mut Cpu) -> Stepped
         return stop(cpu, Stop::BadState);
     }
     let first = memory.half(pc);
-    if let Some(instr) = narrow(first) {
+    if let Some(instr) = narrow(decoder, first) {
         return act(memory, cpu, &instr, 2);
     }
     if !is_in_rom(pc + 2) {
         return stop(cpu, Stop::BadState);
     }
-    match decode(first, memory.half(pc + 2)) {
+    match decoder.decode(first, memory.half(pc + 2)) {
         Some((instr, size)) => act(memory, cpu, &instr, size),
         None => stop(cpu, Stop::Undefined),
     }
@@ -138,7 +140,12 @@ impl Machine {
     {
         let memory = Memory::new(alloc, PLATFORM, image.rom.as_slice(), start)?;
         let cpu = reset_cpu(&memory);
-        Ok(Machine { memory, cpu })
+        let decoder = Decoder::new(alloc)?;
+        Ok(Machine {
+            memory,
+            cpu,
+            decoder,
+        })
     }
 
     /// Who runs.
@@ -161,7 +168,7 @@ impl Machine {
         ensures rom { self.new.rom ≡ self.old.rom }
         ensures step { step_of self.old.rom self.old.state ≡ record { state = self.new.state; what = result } }
     {
-        step(&mut self.memory, &mut self.cpu)
+        step(&mut self.memory, &mut self.cpu, &mut self.decoder)
     }
 
     /// One turn of Non-secure code: Went or Stopped. Its Write items change Non-secure RAM, also where it stops.
