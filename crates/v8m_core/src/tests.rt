@@ -364,6 +364,14 @@ fn stacks_and_branches(rt: HostRuntime) -> Result<(), Fail> {
         last(rt.alloc(), &code)?,
         Some(Stepped::Stopped(Stop::StackLimit))
     );
+    // the same by mov sp, r1, where r1 is 0
+    let code = [
+        0xF647, 0x70F0, 0xF2C3, 0x0001, 0xF380, 0x880A, 0x468D, 0xDE01,
+    ];
+    assert_eq!(rt;
+        last(rt.alloc(), &code)?,
+        Some(Stepped::Stopped(Stop::StackLimit))
+    );
     // movw r0, #0x200; movt r0, #0x1000; bx r0: bit 0 is clear
     let code = [0xF240, 0x2000, 0xF2C1, 0x0000, 0x4700];
     assert_eq!(rt;

@@ -45,7 +45,7 @@ with_rule false b c d = refl
 pub taken_is : (i : Instr) → taken_of i ≡ in_range_of i
 unfolding taken_of in_range_of row_of opcode_of numbers_of field_of all_taken takes is_kept
 taken_is Nop = refl
-taken_is (Mov d m) = two (is_register d) (is_register_or_sp m)
+taken_is (Mov d m) = two (is_register_or_sp d) (is_register_or_sp m)
 taken_is (Bx m) = one (is_register m)
 taken_is (Bxns m) = one (is_register m)
 taken_is (Blxns m) = one (is_register m)
@@ -103,7 +103,7 @@ size_is _ = refl
 -- what a field adds to the word first:second
 abbrev placed : Operand → ℕ → ℕ
 placed operand.Blank v = 0
-placed operand.NarrowRd v = part v 3 1 * 2 ^ 23 + part v 0 3 * 2 ^ 16
+placed operand.NarrowRdOrSp v = part v 3 1 * 2 ^ 23 + part v 0 3 * 2 ^ 16
 placed operand.NarrowRm v = part v 0 4 * 2 ^ 19
 placed operand.NarrowRmOrSp v = part v 0 4 * 2 ^ 19
 placed operand.NarrowImm8 v = part v 0 8 * 2 ^ 16
@@ -215,10 +215,10 @@ four_parts : (a b c d : Bool) → (a && (b && (c && d))) ≡ true → (a ≡ tru
 four_parts a b c d h = let p = and_parts a (b && (c && d)) h in let q = three_parts b c d p.1 in (p.0, q.0, q.1, q.2)
 
 -- the rows by their shapes
-mov_is : (d m : ℕ) → Has op.Mov (operand.NarrowRd ∷ operand.NarrowRmOrSp ∷ operand.Blank ∷ operand.Blank ∷ []) false (0x4600 * 2 ^ 16) → (is_register d && is_register_or_sp m) ≡ true → row_code (row_of op.Mov) (d ∷ m ∷ 0 ∷ 0 ∷ []) ≡ narrow (0x4600 + 0x80 * (d / 8) + 8 * m + d % 8)
+mov_is : (d m : ℕ) → Has op.Mov (operand.NarrowRdOrSp ∷ operand.NarrowRmOrSp ∷ operand.Blank ∷ operand.Blank ∷ []) false (0x4600 * 2 ^ 16) → (is_register_or_sp d && is_register_or_sp m) ≡ true → row_code (row_of op.Mov) (d ∷ m ∷ 0 ∷ 0 ∷ []) ≡ narrow (0x4600 + 0x80 * (d / 8) + 8 * m + d % 8)
 mov_is d m h r =
-    let p = two_parts (is_register d) (is_register_or_sp m) r in
-    let ld = register_lt d p.0 in
+    let p = two_parts (is_register_or_sp d) (is_register_or_sp m) r in
+    let ld = register_or_sp_lt d p.0 in
     let lm = register_or_sp_lt m p.1 in
     narrow_is op.Mov _ _ _ (0x4600 + 0x80 * (d / 8) + 8 * m + d % 8) h (omega arith)
 

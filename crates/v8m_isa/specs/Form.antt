@@ -119,7 +119,7 @@ is_kept SpFromSp (d ∷ (n ∷ vs)) = is_sp_from_sp d n
 -- where a field stands, and what it takes
 unfoldable pub field_of : Operand → Field
 field_of operand.Blank = fields.BLANK
-field_of operand.NarrowRd = fields.NARROW_RD
+field_of operand.NarrowRdOrSp = fields.NARROW_RD_OR_SP
 field_of operand.NarrowRm = fields.NARROW_RM
 field_of operand.NarrowRmOrSp = fields.NARROW_RM_OR_SP
 field_of operand.NarrowImm8 = fields.NARROW_IMM8

@@ -12,7 +12,7 @@ use Rattle.v8m_isa.specs.Form.{Row, row, not_xor, row_size, numbers_in}
 -- each field of an instruction is in its range
 unfoldable pub in_range_of : Instr → Bool
 in_range_of Nop = true
-in_range_of (Mov d m) = is_register d && is_register_or_sp m
+in_range_of (Mov d m) = is_register_or_sp d && is_register_or_sp m
 in_range_of (Bx m) = is_register m
 in_range_of (Bxns m) = is_register m
 in_range_of (Blxns m) = is_register m

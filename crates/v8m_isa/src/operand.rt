@@ -42,7 +42,8 @@ const NONE: Piece = Piece {
 pub enum Operand {
     /// No field: it takes 0 alone.
     Blank,
-    NarrowRd,
+    /// Rd, where it may be SP
+    NarrowRdOrSp,
     NarrowRm,
     /// Rm, where it may be SP
     NarrowRmOrSp,
@@ -72,7 +73,7 @@ pub enum Operand {
 
 pub const BLANK: Field = field!(Number);
 
-pub const NARROW_RD: Field = narrow_field!(Register 7:7 2:0);
+pub const NARROW_RD_OR_SP: Field = narrow_field!(Base 7:7 2:0);
 
 pub const NARROW_RM: Field = narrow_field!(Register 6:3);
 
@@ -119,7 +120,7 @@ impl Operand {
     {
         match self {
             Operand::Blank => BLANK,
-            Operand::NarrowRd => NARROW_RD,
+            Operand::NarrowRdOrSp => NARROW_RD_OR_SP,
             Operand::NarrowRm => NARROW_RM,
             Operand::NarrowRmOrSp => NARROW_RM_OR_SP,
             Operand::NarrowImm8 => NARROW_IMM8,

@@ -31,7 +31,7 @@ macro_rules! operands {
 
 pub const NOP: Form<4> = form!(0xBF00);
 
-pub const MOV: Form<4> = form!(0x4600 NarrowRd NarrowRmOrSp);
+pub const MOV: Form<4> = form!(0x4600 NarrowRdOrSp NarrowRmOrSp);
 
 pub const BX: Form<4> = form!(0x4700 NarrowRm);
 

@@ -38,6 +38,7 @@ fn moves_and_returns(rt: HostRuntime) {
     assert!(rt; is_one(Instr::Mov { d: 0, m: 14 }, 0x4670));
     assert!(rt; is_one(Instr::Mov { d: 9, m: 1 }, 0x4689));
     assert!(rt; is_one(Instr::Mov { d: 14, m: 13 }, 0x46EE));
+    assert!(rt; is_one(Instr::Mov { d: 13, m: 3 }, 0x469D));
     assert!(rt; is_one(Instr::Bx { m: 3 }, 0x4718));
     assert!(rt; is_one(Instr::Bx { m: 14 }, 0x4770));
     assert!(rt; is_one(Instr::Bxns { m: 14 }, 0x4774));
