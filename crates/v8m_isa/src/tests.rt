@@ -173,7 +173,7 @@ fn special_registers(rt: HostRuntime) {
 
 #[test]
 fn out_of_range(rt: HostRuntime) {
-    assert!(rt; !in_range(&Instr::Mov { d: 13, m: 0 }));
+    assert!(rt; !in_range(&Instr::Mov { d: 15, m: 0 }));
     assert!(rt; !in_range(&Instr::Mov { d: 0, m: 15 }));
     assert!(rt; !in_range(&Instr::Udf { i: 256 }));
     assert!(rt; !in_range(&Instr::Movw { d: 0, i: 0x10000 }));
