@@ -1,3 +1,0 @@
-pub mod LevelLaws
-pub mod Chains
-pub mod AnswerLaws
