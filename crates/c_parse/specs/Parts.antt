@@ -1,4 +1,4 @@
--- Parts of statements, read from left to right.
+-- Parts of choices and of statements, read from left to right.
 use Rattle.std.specs.Prelude.{ℕ, List, Option, Some, None, Ok, if◌then◌else◌}
 use Rattle.cm_base.specs.declared.place.Place.{Place}
 use Rattle.c_lex.specs.declared.token.Keyword.TheVariants as word
@@ -6,11 +6,19 @@ use Rattle.c_lex.specs.declared.token.Punct.TheVariants as mark
 use Rattle.c_lex.specs.declared.token.Token.{Token}
 use Rattle.c_grammar.specs.declared.tokens.Sign.TheVariants.{Word, Mark}
 use Rattle.c_ast.specs.declared.expr.Expr.{Expr}
+use Rattle.c_ast.specs.declared.expr.Expr.TheVariants as tree
 use Rattle.c_ast.specs.declared.stmt.First.{First}
 use Rattle.c_ast.specs.declared.stmt.Stmt.{Stmt}
 use Rattle.c_ast.specs.declared.stmt.Stmt.TheVariants as stmt
 use Rattle.c_grammar.specs.Tokens.{◌>>=◌, Read, expect, next_is}
 use Rattle.c_grammar.specs.Reading.{Readers, read_expr, read_if_else}
+
+-- after the second expression of a choice
+abbrev pub read_chosen_end : Readers → Place → Expr → Expr → List Token → Read Expr
+read_chosen_end below p a b ts = do
+  c ← expect (Mark mark.Colon) ts
+  d ← below.cond c.1
+  Ok (tree.Choice p a b d.0, d.1)
 
 abbrev pub read_break : List Token → Read Stmt
 read_break ts = expect (Word word.Break) ts >>= (λ p. expect (Mark mark.Semicolon) p.1 >>= (λ c. Ok (stmt.Break p.0, c.1)))
