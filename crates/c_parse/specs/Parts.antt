@@ -1,5 +1,5 @@
 -- Parts of choices and of statements, read from left to right.
-use Rattle.std.specs.Prelude.{ℕ, List, Option, Some, None, Ok, if◌then◌else◌}
+use Rattle.std.specs.Prelude.{ℕ, List, [], Option, Some, None, Ok, if◌then◌else◌}
 use Rattle.cm_base.specs.declared.place.Place.{Place}
 use Rattle.c_lex.specs.declared.token.Keyword.TheVariants as word
 use Rattle.c_lex.specs.declared.token.Punct.TheVariants as mark
@@ -11,7 +11,7 @@ use Rattle.c_ast.specs.declared.stmt.First.{First}
 use Rattle.c_ast.specs.declared.stmt.Stmt.{Stmt}
 use Rattle.c_ast.specs.declared.stmt.Stmt.TheVariants as stmt
 use Rattle.c_grammar.specs.Tokens.{◌>>=◌, Read, expect, next_is}
-use Rattle.c_grammar.specs.Reading.{Readers, read_expr, read_if_else}
+use Rattle.c_grammar.specs.Reading.{Readers, read_expr, read_if_else, read_opt_expr, read_parts}
 
 -- after the second expression of a choice
 abbrev pub read_chosen_end : Readers → Place → Expr → Expr → List Token → Read Expr
@@ -49,3 +49,19 @@ read_for_body below p f t x ts = do
   c ← expect (Mark mark.ParenClose) ts
   a ← below.stmts c.1
   Ok (stmt.For p f t x a.0, a.1)
+
+-- after the first part of a "for"
+abbrev pub read_for_turns : List (List ℕ) → Readers → Place → First → List Token → Read Stmt
+read_for_turns names below p f ts = do
+  t ← read_opt_expr names below ts
+  c ← expect (Mark mark.Semicolon) t.1
+  x ← read_opt_expr names below c.1
+  read_for_body below p f t.0 x.0 x.1
+
+-- after "switch", "(", its expression and ")"
+abbrev pub read_switch_body : List (List ℕ) → Readers → Place → Expr → List Token → Read Stmt
+read_switch_body names below p e ts = do
+  o ← expect (Mark mark.BraceOpen) ts
+  xs ← read_parts names below [] o.1
+  c ← expect (Mark mark.BraceClose) xs.1
+  Ok (stmt.Switch p e xs.0, c.1)
