@@ -1,5 +1,5 @@
 -- Parts of choices and of statements, read from left to right.
-use Rattle.std.specs.Prelude.{ℕ, List, [], Option, Some, None, Ok, if◌then◌else◌}
+use Rattle.std.specs.Prelude.{ℕ, List, [], Option, None, Ok, if◌then◌else◌}
 use Rattle.cm_base.specs.declared.place.Place.{Place}
 use Rattle.c_lex.specs.declared.token.Keyword.TheVariants as word
 use Rattle.c_lex.specs.declared.token.Punct.TheVariants as mark
