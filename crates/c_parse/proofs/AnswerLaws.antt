@@ -39,10 +39,16 @@ fails ts (errors.Fault f) h = told_by ts f (rw h refl)
 
 -- ---- what follows for the units that the tokens derive
 
+abbrev got : List External → Result (List External) Fault
+got a = Ok a
+
+abbrev lost : Fault → Result (List External) Fault
+lost f = Err f
+
 ended_at : (u : Unit_so_far) (rest : List Token) (all : List External) → to_end u rest ≡ Ok all → (names : List (List ℕ)) × (gives u rest ≡ gives (names, all) [])
 ended_at u [] all h = (u.0, ap (λ a. gives (u.0, a) []) (inner u.1 all h))
   where
-    inner : (a b : List External) → Ok {B = Fault} a ≡ Ok b → a ≡ b
+    inner : (a b : List External) → got a ≡ got b → a ≡ b
     inner a b e = cc
 ended_at u (k ∷ r) all h = absurd cc
 
@@ -59,13 +65,13 @@ derived law ts (Err e) h = tt
 
 -- ---- what is answered of the units that the tokens derive
 
-same_parts : (a b : List External) → Ok {B = Fault} a ≡ Ok b → a ≡ b
+same_parts : (a b : List External) → got a ≡ got b → a ≡ b
 same_parts a b e = cc
 
-no_fault : (a : List External) (f : Fault) → Err {A = List External} f ≡ Ok a → ⊥
+no_fault : (a : List External) (f : Fault) → lost f ≡ got a → ⊥
 no_fault a f e = cc
 
-same_fault : (f g : Fault) → Err {A = List External} f ≡ Err g → f ≡ g
+same_fault : (f g : Fault) → lost f ≡ lost g → f ≡ g
 same_fault f g e = cc
 
 given_by : (ts : List Token) (r : Result the.Unit SyntaxFault) (all : List External) (read : Result (List External) Fault) → Answers ts r read → read ≡ Ok all → GivesUnit r all
@@ -95,9 +101,11 @@ refused law ts r h all d left e = let p = law 200 ts all d left e in refused_by 
 pub not_derived : Complete_law → Deep_law → (ts : List Token) (place : Place) → Answers ts (Err (At 10 place)) (read_whole ts) → (all : List External) → Derives ts all → ⊥
 not_derived complete deep ts place h all d = by_depth (deep_unit d 200) refl
   where
-    ten : 10 ≡ 11 → ⊥
-    ten e = absurd (omega arith)
+    ten : (a b : ℕ) → a ≡ 10 → b ≡ 11 → a ≡ b → ⊥
+    ten a b p q e = absurd (omega arith)
 
     by_depth : (o : Option ℕ) → deep_unit d 200 ≡ o → ⊥
     by_depth None e = given complete ts (Err (At 10 place)) h all d e
-    by_depth (Some left) e = let p = refused deep ts (Err (At 10 place)) h all d left e in ten p.0
+    by_depth (Some left) e = let p = refused deep ts (Err (At 10 place)) h all d left e in ten _ _ refl refl p.0
+
+pub ruleset answers = (ended, more_follows, fails)

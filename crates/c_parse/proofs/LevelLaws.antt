@@ -1,5 +1,5 @@
 -- The readers where a level is left, and a turn of a repetition.
-use Rattle.std.proofs.Common.{◌≡◌, ℕ, zero, suc, ◌+◌, ◌-◌, ◌<◌, sym, ◌∙◌, ◌≢◌, Bool, true, false, List, [], Result, Ok, Err, refl, arith}
+use Rattle.std.proofs.Common.{◌≡◌, ℕ, zero, suc, ◌+◌, ◌-◌, ◌<◌, sym, ◌∙◌, ◌≢◌, Bool, true, false, List, [], Ok, Err, refl, arith}
 use Rattle.c_lex.specs.declared.token.Token.{Token}
 use Rattle.c_lex.specs.declared.token.Keyword.TheVariants as word
 use Rattle.c_grammar.specs.declared.tokens.Sign.TheVariants.{Word}

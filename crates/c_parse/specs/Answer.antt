@@ -1,5 +1,5 @@
 -- What the parser answers, by how the tokens read from left to right.
-use Rattle.std.specs.Prelude.{◌≡◌, ℕ, ◌-◌, Bool, List, length, Option, Some, None, Result, Ok, Err, nat_eq, slice_get, if◌then◌else◌, [], ◌∷◌}
+use Rattle.std.specs.Prelude.{◌≡◌, ℕ, ◌-◌, List, length, Option, Some, None, Result, Ok, Err, nat_eq, slice_get, if◌then◌else◌, [], ◌∷◌}
 use Rattle.cm_base.specs.declared.place.Place.{Place}
 use Rattle.c_lex.specs.declared.token.Token.{Token}
 use Rattle.c_ast.specs.declared.stmt.Unit as the
@@ -9,7 +9,7 @@ use Rattle.c_grammar.specs.declared.tokens.Fault.TheVariants.{Syntax, Deep}
 use Rattle.c_grammar.specs.declared.tokens.ParseError.{ParseError}
 use Rattle.c_grammar.specs.declared.tokens.ParseError.TheVariants as errors
 use Rattle.c_grammar.specs.Tokens.{Read, fault}
-use Rattle.c_grammar.specs.Reading.{Unit_so_far, read_unit, is_some_token}
+use Rattle.c_grammar.specs.Reading.{Unit_so_far, read_unit}
 use Rattle.c_parse.specs.declared.parser.SyntaxFault.{SyntaxFault}
 use Rattle.c_parse.specs.declared.parser.SyntaxFault.TheVariants.{At, NoMemory}
 

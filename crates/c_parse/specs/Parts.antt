@@ -1,16 +1,24 @@
--- Parts of statements, read from left to right.
-use Rattle.std.specs.Prelude.{ℕ, List, Option, Some, None, Ok, if◌then◌else◌}
+-- Parts of choices and of statements, read from left to right.
+use Rattle.std.specs.Prelude.{ℕ, List, [], Option, None, Ok, if◌then◌else◌}
 use Rattle.cm_base.specs.declared.place.Place.{Place}
 use Rattle.c_lex.specs.declared.token.Keyword.TheVariants as word
 use Rattle.c_lex.specs.declared.token.Punct.TheVariants as mark
 use Rattle.c_lex.specs.declared.token.Token.{Token}
 use Rattle.c_grammar.specs.declared.tokens.Sign.TheVariants.{Word, Mark}
 use Rattle.c_ast.specs.declared.expr.Expr.{Expr}
+use Rattle.c_ast.specs.declared.expr.Expr.TheVariants as tree
 use Rattle.c_ast.specs.declared.stmt.First.{First}
 use Rattle.c_ast.specs.declared.stmt.Stmt.{Stmt}
 use Rattle.c_ast.specs.declared.stmt.Stmt.TheVariants as stmt
 use Rattle.c_grammar.specs.Tokens.{◌>>=◌, Read, expect, next_is}
-use Rattle.c_grammar.specs.Reading.{Readers, read_expr, read_if_else}
+use Rattle.c_grammar.specs.Reading.{Readers, read_expr, read_if_else, read_opt_expr, read_parts}
+
+-- after the second expression of a choice
+abbrev pub read_chosen_end : Readers → Place → Expr → Expr → List Token → Read Expr
+read_chosen_end below p a b ts = do
+  c ← expect (Mark mark.Colon) ts
+  d ← below.cond c.1
+  Ok (tree.Choice p a b d.0, d.1)
 
 abbrev pub read_break : List Token → Read Stmt
 read_break ts = expect (Word word.Break) ts >>= (λ p. expect (Mark mark.Semicolon) p.1 >>= (λ c. Ok (stmt.Break p.0, c.1)))
@@ -41,3 +49,19 @@ read_for_body below p f t x ts = do
   c ← expect (Mark mark.ParenClose) ts
   a ← below.stmts c.1
   Ok (stmt.For p f t x a.0, a.1)
+
+-- after the first part of a "for"
+abbrev pub read_for_turns : List (List ℕ) → Readers → Place → First → List Token → Read Stmt
+read_for_turns names below p f ts = do
+  t ← read_opt_expr names below ts
+  c ← expect (Mark mark.Semicolon) t.1
+  x ← read_opt_expr names below c.1
+  read_for_body below p f t.0 x.0 x.1
+
+-- after "switch", "(", its expression and ")"
+abbrev pub read_switch_body : List (List ℕ) → Readers → Place → Expr → List Token → Read Stmt
+read_switch_body names below p e ts = do
+  o ← expect (Mark mark.BraceOpen) ts
+  xs ← read_parts names below [] o.1
+  c ← expect (Mark mark.BraceClose) xs.1
+  Ok (stmt.Switch p e xs.0, c.1)

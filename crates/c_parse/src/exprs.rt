@@ -3,10 +3,12 @@
 ghost use Rattle.std.specs.Prelude.{◌≤◌};
 ghost use Rattle.c_grammar.specs.Tokens.{Gives};
 ghost use Rattle.c_grammar.specs.Reading as spec;
+ghost use Rattle.c_parse.specs.Parts as parts_of;
 
 use crate::levels::deep_if;
 use crate::nodes::{
-    accessed, alone, assignment, choice, commas, conversion, group, joined, prefix, size, step,
+    Chosen, accessed, alone, assignment, choice, commas, conversion, group, joined, prefix, size,
+    step,
 };
 use crate::types::typename;
 use c_ast::{Access, Expr, Link};
@@ -143,9 +145,24 @@ fn chosen<'a>(
 {
     let (place, rest) = expect(ts, Sign::Mark(Punct::Question))?;
     let (holds, rest) = expr(alloc, names, left, rest)?;
-    let (_colon, rest) = expect(rest, Sign::Mark(Punct::Colon))?;
+    let head = Chosen { place, test, holds };
+    chosen_end(alloc, names, left, head, rest)
+}
+
+/// ":" cond, after the rest of its choice.
+#[cycle(syntax)]
+fn chosen_end<'a>(
+    alloc: Global,
+    names: &[Text],
+    left: usize,
+    head: Chosen,
+    ts: &'a [Token],
+) -> Read<'a, Expr>
+    ensures { Gives (λ x. (x.0, x.1.now)) result (parts_of.read_chosen_end (spec.levels names.now left) head.place head.test head.holds ts.now) }
+{
+    let (_colon, rest) = expect(ts, Sign::Mark(Punct::Colon))?;
     let (fails, rest) = cond(alloc, names, left, rest)?;
-    Ok((choice(alloc, place, test, holds, fails)?, rest))
+    Ok((choice(alloc, head, fails)?, rest))
 }
 
 /// An operator of this level and its operand.

@@ -82,15 +82,18 @@ pub fn assignment(
     ))
 }
 
-pub fn choice(
-    alloc: Global,
-    place: Place,
-    test: Expr,
-    holds: Expr,
-    fails: Expr,
-) -> Result<Expr, AllocError>
-    ensures { IfOk result (λ e. e ≡ exprs.Choice place test holds fails) }
+/// A choice without what it is where its test fails.
+#[derive(Drop)]
+pub struct Chosen {
+    pub place: Place,
+    pub test: Expr,
+    pub holds: Expr,
+}
+
+pub fn choice(alloc: Global, head: Chosen, fails: Expr) -> Result<Expr, AllocError>
+    ensures { IfOk result (λ e. e ≡ exprs.Choice head.place head.test head.holds fails) }
 {
+    let Chosen { place, test, holds } = head;
     Ok(Expr::Choice(
         place,
         Boxed::new(alloc, test)?,

@@ -66,6 +66,7 @@ fn fault_of(tokens: &[Token], error: ParseError) -> SyntaxFault
 }
 
 /// The unit that the tokens read as, or the fault of their reading.
+#[tactic(auto, using(crate::proofs::AnswerLaws::answers))]
 fn whole(alloc: Global, tokens: &[Token]) -> Result<Unit, SyntaxFault>
     ensures { Answers tokens.now result (read_whole tokens.now) }
 {

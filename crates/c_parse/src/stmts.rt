@@ -337,21 +337,31 @@ fn for_stmt<'a>(alloc: Global, names: &[Text], left: usize, ts: &'a [Token]) -> 
     let (place, rest) = expect(ts, Sign::Word(Keyword::For))?;
     let (_open, rest) = expect(rest, Sign::Mark(Punct::ParenOpen))?;
     let (first, rest) = first(alloc, names, left, rest)?;
-    let (test, rest) = opt_expr(alloc, names, left, rest)?;
+    for_turns(alloc, names, left, place, first, rest)
+}
+
+/// [ expr ] ";" [ expr ] ")" stmt, after the first part of a `for`.
+#[cycle(stmts)]
+fn for_turns<'a>(
+    alloc: Global,
+    names: &[Text],
+    left: usize,
+    place: Place,
+    first: First,
+    ts: &'a [Token],
+) -> Read<'a, Stmt>
+    ensures { Gives (λ x. (x.0, x.1.now)) result (parts_of.read_for_turns names.now (spec.levels names.now left) place first ts.now) }
+{
+    let (test, rest) = opt_expr(alloc, names, left, ts)?;
     let (_end, rest) = expect(rest, Sign::Mark(Punct::Semicolon))?;
     let (next, rest) = opt_expr(alloc, names, left, rest)?;
-    for_body(
-        alloc,
-        names,
-        left,
-        Turns {
-            place,
-            first,
-            test,
-            next,
-        },
-        rest,
-    )
+    let turns = Turns {
+        place,
+        first,
+        test,
+        next,
+    };
+    for_body(alloc, names, left, turns, rest)
 }
 
 /// ")" stmt, after what rules its turns.
@@ -380,7 +390,22 @@ fn switch_stmt<'a>(alloc: Global, names: &[Text], left: usize, ts: &'a [Token]) 
     let (_open, rest) = expect(rest, Sign::Mark(Punct::ParenOpen))?;
     let (value, rest) = expr(alloc, names, left, rest)?;
     let (_close, rest) = expect(rest, Sign::Mark(Punct::ParenClose))?;
-    let (_open, rest) = expect(rest, Sign::Mark(Punct::BraceOpen))?;
+    switch_body(alloc, names, left, place, value, rest)
+}
+
+/// "{" { label | decl | stmt } "}", after "switch" "(" expr ")".
+#[cycle(stmts)]
+fn switch_body<'a>(
+    alloc: Global,
+    names: &[Text],
+    left: usize,
+    place: Place,
+    value: Expr,
+    ts: &'a [Token],
+) -> Read<'a, Stmt>
+    ensures { Gives (λ x. (x.0, x.1.now)) result (parts_of.read_switch_body names.now (spec.levels names.now left) place value ts.now) }
+{
+    let (_open, rest) = expect(ts, Sign::Mark(Punct::BraceOpen))?;
     let (all, rest) = parts(alloc, names, left, List::new(alloc), rest)?;
     let (_close, rest) = expect(rest, Sign::Mark(Punct::BraceClose))?;
     Ok((Stmt::Switch(place, value, all), rest))

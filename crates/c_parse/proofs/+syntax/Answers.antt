@@ -7,47 +7,47 @@ use Rattle.c_grammar.specs.Reading as spec
 use Rattle.c_parse.proofs.LevelLaws.{goes_on}
 use Rattle.c_parse.proofs.+syntax.Goals as goal
 
-pub more_exprs-loop-preserved : goal.more_exprs-loop-preserved
-more_exprs-loop-preserved t c =
+pub exprs::more_exprs-loop-preserved : goal.exprs::more_exprs-loop-preserved
+exprs::more_exprs-loop-preserved t c =
     let h : (next_is (Mark mark.Comma)) c.loop.rest.now ≡ true = search rules in
     goes_on (next_is (Mark mark.Comma)) (spec.read_expr_item c.args.names.now (levels c.args.names.now c.args.left)) (length c.args.ts.now) c.loop.counter _ _ _ _ _ c.loop-test.true h c.in_ok-more.ensures c.loop.invariant
 
-pub more_ops-loop-preserved : goal.more_ops-loop-preserved
-more_ops-loop-preserved t c =
+pub exprs::more_ops-loop-preserved : goal.exprs::more_ops-loop-preserved
+exprs::more_ops-loop-preserved t c =
     let h : (has (op_of c.args.level)) c.loop.rest.now ≡ true = search rules in
     goes_on (has (op_of c.args.level)) (spec.read_op_item (spec.read_binary (levels c.args.names.now c.args.left) c.args.level) c.args.level) (length c.args.ts.now) c.loop.counter _ _ _ _ _ c.loop-test.true h c.in_ok-more.ensures c.loop.invariant
 
-pub accesses-loop-preserved : goal.accesses-loop-preserved
-accesses-loop-preserved t c =
+pub exprs::accesses-loop-preserved : goal.exprs::accesses-loop-preserved
+exprs::accesses-loop-preserved t c =
     let h : (begins_access) c.loop.rest.now ≡ true = search rules in
     goes_on (begins_access) (spec.read_access_item c.args.names.now (levels c.args.names.now c.args.left)) (length c.args.ts.now) c.loop.counter _ _ _ _ _ c.loop-test.true h c.in_ok-more.ensures c.loop.invariant
 
-pub more_specs-loop-preserved : goal.more_specs-loop-preserved
-more_specs-loop-preserved t c =
+pub types::more_specs-loop-preserved : goal.types::more_specs-loop-preserved
+types::more_specs-loop-preserved t c =
     let h : (begins_spec c.args.names.now) c.loop.rest.now ≡ true = search rules in
     goes_on (begins_spec c.args.names.now) (spec.read_spec_item c.args.names.now (levels c.args.names.now c.args.left)) (length c.args.ts.now) c.loop.counter _ _ _ _ _ c.loop-test.true h c.in_ok-more.ensures c.loop.invariant
 
-pub more_members-loop-preserved : goal.more_members-loop-preserved
-more_members-loop-preserved t c =
+pub types::more_members-loop-preserved : goal.types::more_members-loop-preserved
+types::more_members-loop-preserved t c =
     let h : (begins_spec c.args.names.now) c.loop.rest.now ≡ true = search rules in
     goes_on (begins_spec c.args.names.now) (spec.read_member_item c.args.names.now (levels c.args.names.now c.args.left)) (length c.args.ts.now) c.loop.counter _ _ _ _ _ c.loop-test.true h c.in_ok-more.ensures c.loop.invariant
 
-pub more_declarators-loop-preserved : goal.more_declarators-loop-preserved
-more_declarators-loop-preserved t c =
+pub types::more_declarators-loop-preserved : goal.types::more_declarators-loop-preserved
+types::more_declarators-loop-preserved t c =
     let h : (next_is (Mark mark.Comma)) c.loop.rest.now ≡ true = search rules in
     goes_on (next_is (Mark mark.Comma)) (spec.read_declarator_item c.args.names.now (levels c.args.names.now c.args.left)) (length c.args.ts.now) c.loop.counter _ _ _ _ _ c.loop-test.true h c.in_ok-more.ensures c.loop.invariant
 
-pub more_enumrs-loop-preserved : goal.more_enumrs-loop-preserved
-more_enumrs-loop-preserved t c =
+pub types::more_enumrs-loop-preserved : goal.types::more_enumrs-loop-preserved
+types::more_enumrs-loop-preserved t c =
     let h : (comma_more) c.loop.rest.now ≡ true = search rules in
     goes_on (comma_more) (spec.read_enumr_item c.args.names.now (levels c.args.names.now c.args.left)) (length c.args.ts.now) c.loop.counter _ _ _ _ _ c.loop-test.true h c.in_ok-more.ensures c.loop.invariant
 
-pub suffixes-loop-preserved : goal.suffixes-loop-preserved
-suffixes-loop-preserved t c =
+pub declarators::suffixes-loop-preserved : goal.declarators::suffixes-loop-preserved
+declarators::suffixes-loop-preserved t c =
     let h : (begins_suffix) c.loop.rest.now ≡ true = search rules in
     goes_on (begins_suffix) (spec.read_suffix_item c.args.names.now (levels c.args.names.now c.args.left)) (length c.args.ts.now) c.loop.counter _ _ _ _ _ c.loop-test.true h c.in_ok-more.ensures c.loop.invariant
 
-pub more_params-loop-preserved : goal.more_params-loop-preserved
-more_params-loop-preserved t c =
+pub declarators::more_params-loop-preserved : goal.declarators::more_params-loop-preserved
+declarators::more_params-loop-preserved t c =
     let h : (next_is (Mark mark.Comma)) c.loop.rest.now ≡ true = search rules in
     goes_on (next_is (Mark mark.Comma)) (spec.read_param_item c.args.names.now (levels c.args.names.now c.args.left)) (length c.args.ts.now) c.loop.counter _ _ _ _ _ c.loop-test.true h c.in_ok-more.ensures c.loop.invariant

@@ -1,4 +1,4 @@
-use Rattle.std.proofs.Common.{◌≡◌, ℕ, ◌-◌, length}
+use Rattle.std.proofs.Common.{◌≡◌, ◌-◌, length}
 use Rattle.c_lex.specs.declared.token.Keyword.TheVariants as word
 use Rattle.c_grammar.specs.declared.tokens.Sign.TheVariants.{Word}
 use Rattle.c_grammar.specs.Tokens.{next_is}

@@ -1,4 +1,4 @@
-use Rattle.std.proofs.Common.{◌≡◌, ℕ, ◌+◌, ◌-◌, ◌*◌, length}
+use Rattle.std.proofs.Common.{◌≡◌, ◌+◌, ◌-◌, ◌*◌, length}
 use Rattle.c_grammar.specs.Tokens.{comma_more}
 use Rattle.c_grammar.specs.Reading.{levels}
 use Rattle.c_grammar.specs.Reading as spec

@@ -1,4 +1,4 @@
-use Rattle.std.proofs.Common.{◌≡◌, ℕ, ◌-◌, length}
+use Rattle.std.proofs.Common.{◌≡◌, ◌-◌, length}
 use Rattle.c_lex.specs.declared.token.Punct.TheVariants as mark
 use Rattle.c_grammar.specs.declared.tokens.Sign.TheVariants.{Mark}
 use Rattle.c_grammar.specs.Tokens.{next_is}

@@ -1,4 +1,4 @@
-use Rattle.std.proofs.Common.{◌≡◌, ℕ, ◌-◌, length, []}
+use Rattle.std.proofs.Common.{◌≡◌, ◌-◌, length, []}
 use Rattle.c_grammar.specs.Reading as spec
 use Rattle.c_parse.proofs.units.unit.Given as goal
 
