@@ -12,7 +12,7 @@ use Rattle.ns_types.specs.State.{State}
 use Rattle.v8m_core.specs.declared.stepped.Stepped.{Stepped}
 use Rattle.v8m_core.specs.Step.{Done, step_of, turn_of}
 use Rattle.ns_turns.specs.Run.{after, ends, next_of, run_of}
-use Rattle.ns_turns.specs.Advance.{Advances, behind, then_rest}
+use Rattle.ns_turns.specs.Advance.{Advances, GoesOnTo, behind, then_rest}
 
 pub run_stopped : (rom : List ℕ) (n : ℕ) (ts : List Turn) (s : State) (x : Stop) → s.cpu.side ≡ Stopped x → run_of rom (suc n) ts s ≡ ends end.Stopped
 unfolding run_of
@@ -42,15 +42,18 @@ spent_turn rom (t ∷ ts) s e lt = rw e refl
 pub behind_end : (list : List Event) (e : End) → record { list = list; end = e } ≡ behind list (ends e)
 behind_end list e = ap (λ l. record { list = l; end = e }) (sym (append-nil list))
 
--- a run that goes on behind events, by one step of it
-pub run_more : (rom rom' : List ℕ) (n i : ℕ) (ts ts' : List Turn) (s s' : State) (list : List Event) (r : Result Stepped End) (whole : Events) → i < n → rom' ≡ rom → whole ≡ behind list (run_of rom (n - i) ts s) → Advances rom' ts s r ts' s' → whole ≡ behind list (then_rest r (run_of rom (n - (i + 1)) ts' s'))
-run_more rom rom' n i ts ts' s s' list r whole lt same so_far step =
-    let count : n - i ≡ suc (n - (i + 1)) = omega arith in
+-- a run that goes on behind events: k steps that make none, and one step more
+pub run_more : (rom rom' rom2 : List ℕ) (left k : ℕ) (ts ts' : List Turn) (s t s' : State) (list : List Event) (r : Result Stepped End) (whole : Events) → k < left → rom' ≡ rom → rom2 ≡ rom' → whole ≡ behind list (run_of rom left ts s) → GoesOnTo rom' k s t → Advances rom2 ts t r ts' s' → whole ≡ behind list (then_rest r (run_of rom (left - k - 1) ts' s'))
+run_more rom rom' rom2 left k ts ts' s t s' list r whole lt same same2 so_far on step =
+    let m = left - k - 1 in
+    let count : left ≡ k + suc m = omega arith in
     so_far
-    ∙ ap (λ k. behind list (run_of rom k ts s)) count
-    ∙ ap (λ x. behind list (run_of x (suc (n - (i + 1))) ts s)) (sym same)
-    ∙ ap (behind list) (step (n - (i + 1)))
-    ∙ ap (λ x. behind list (then_rest r (run_of x (n - (i + 1)) ts' s'))) same
+    ∙ ap (λ i. behind list (run_of rom i ts s)) count
+    ∙ ap (λ x. behind list (run_of x (k + suc m) ts s)) (sym same)
+    ∙ ap (behind list) (on (suc m) ts)
+    ∙ ap (λ x. behind list (run_of x (suc m) ts t)) (sym same2)
+    ∙ ap (behind list) (step m)
+    ∙ ap (λ x. behind list (then_rest r (run_of x m ts' s'))) (same2 ∙ same)
 
 -- events of one step more
 pub behind_more : (list : List Event) (more : List Event) (rest : Events) → behind list (behind more rest) ≡ behind (list ++ more) rest

@@ -4,7 +4,7 @@ ghost use Rattle.ns_types.specs.Boundary.{acted};
 ghost use Rattle.v8m_core.specs.Step.{turn_of};
 ghost use Rattle.v8m_core.specs.Parts.{is_quiet};
 ghost use Rattle.ns_turns.specs.Run.{ends, event_of, run_of};
-ghost use Rattle.ns_turns.specs.Advance.{Advances};
+ghost use Rattle.ns_turns.specs.Advance.{Advances, GoesOnTo};
 
 use cm_base::{List, NoMemory};
 use ns_types::{End, Event, Events, Side, Turn};
@@ -20,6 +20,18 @@ pub fn play_turn(machine: &mut Machine, turn: &Turn) -> Stepped
     ensures turn { turn_of machine.old.rom turn.now machine.old.state ≡ record { state = machine.new.state; what = result } }
 {
     machine.turn(turn)
+}
+
+/// Takes instructions that only go on, at most so many, and answers how many. They make no event.
+fn go_on(machine: &mut Machine, most: u64) -> u64
+    ensures rom { machine.new.rom ≡ machine.old.rom }
+    ensures most { result ≤ most }
+    ensures steps { GoesOnTo machine.old.rom result machine.old.state machine.new.state }
+{
+    match machine.side() {
+        Side::Secure => machine.go_on(most),
+        _ => 0,
+    }
 }
 
 /// One step of a run, an instruction or the next turn; or how the run ends before it.
@@ -81,11 +93,14 @@ pub fn run(alloc: Global, machine: &mut Machine, turns: &[Turn], n: u64) -> Resu
 {
     let mut list = List::new(alloc);
     let mut next = 0;
-    for _step in 0..n {
+    let mut left = n;
+    while left > 0 {
+        left -= go_on(machine, left - 1);
         match advance(machine, turns, &mut next) {
             Ok(what) => note(&mut list, what)?,
             Err(end) => return Ok(Events { list, end }),
         }
+        left -= 1;
     }
     let end = end_of(machine, turns, next);
     Ok(Events { list, end })

@@ -1,23 +1,37 @@
 -- What a decoder keeps at first.
 use Rattle.std.specs.List.{All}
-use Rattle.std.proofs.Common.{◌≡◌, ◌∙◌, refl, ap, sym, subst, List, replicate, length}
-use Rattle.std.proofs.lemmas.List.{length-replicate}
+use Rattle.std.proofs.Common.{◌≡◌, ◌<◌, ◌∙◌, refl, ap, sym, subst, true, List, ℕ, replicate, length, Some, slice_index_or, slice_set}
+use Rattle.std.specs.Prelude.{IsSomeAnd, slice_get}
+use Rattle.std.proofs.lemmas.List.{get_or-set_same, length-replicate, length-set}
+use Rattle.std.proofs.lemmas.Option.{slice_get-get_or, slice_get_read}
+use Rattle.ns_types.specs.Platform.{is_in_rom}
 use Rattle.std.proofs.lemmas.List.Elements.{All-replicate}
 use Rattle.v8m_isa.specs.declared.instr.Instr.TheVariants.{Nop}
-use Rattle.v8m_isa.specs.Table.{code_of, size_of, in_range_of}
-use Rattle.v8m_isa.proofs.Laws.{decode_of-code_of}
 use Rattle.v8m_core.specs.declared.decoder.Known.{Known}
-use Rattle.v8m_core.specs.Known.{IsKnown, AreKnown}
+use Rattle.v8m_core.specs.Known.{AreRead, IsAt, IsKnown}
 
-abbrev pub nop : Known
-nop = record { first = 48896; second = 0; instr = Nop; size = 2 }
+abbrev pub unused : Known
+unused = record { at = 0; instr = Nop; size = 2 }
 
-pub nop_is_known : IsKnown nop
-unfolding code_of size_of in_range_of
-nop_is_known = record { is = decode_of-code_of Nop refl }
+pub unused_is_known : (rom : List ℕ) → IsKnown rom unused
+unused_is_known rom = record { known = λ e. cc }
 
-pub nops_are_known : (known : List Known) → known ≡ replicate 1024 nop → AreKnown known
-nops_are_known known e = record {
-  places = ap length e ∙ length-replicate 1024 nop;
-  each = subst (λ ks. All IsKnown ks) (sym e) (All-replicate IsKnown 1024 nop nop_is_known);
-}
+pub all_unused : (rom : List ℕ) (known : List Known) → known ≡ replicate 4096 unused → AreRead rom known
+all_unused rom known e = subst (λ ks. All (IsKnown rom) ks) (sym e) (All-replicate (IsKnown rom) 4096 unused (unused_is_known rom))
+
+pub so_many : (known : List Known) → known ≡ replicate 4096 unused → length known ≡ 4096
+so_many known e = ap length e ∙ length-replicate 4096 unused
+
+-- what was put at a place is there
+pub put_at : (rom : List ℕ) (pc : ℕ) (known : List Known) (i : ℕ) (k : Known) → i < length known → IsAt rom pc k → IsSomeAnd (slice_get (slice_set known i k) i) (λ x. IsAt rom pc x)
+put_at rom pc known i k lt is =
+    let long : i < length (slice_set known i k) = subst (λ n. i < n) (sym (length-set known i k)) lt in
+    let there : slice_get (slice_set known i k) i ≡ Some k = slice_get-get_or (slice_set known i k) i k long ∙ ap Some (get_or-set_same known i k k lt) in
+    subst (λ o. IsSomeAnd o (λ x. IsAt rom pc x)) (sym there) is
+
+-- what is kept of an address of ROM is what a step there is
+pub kept_at : (rom : List ℕ) (pc : ℕ) (known : List Known) (i : ℕ) (k : Known) → i < length known → k ≡ slice_index_or known i k → k.at ≡ pc → is_in_rom pc ≡ true → AreRead rom known → IsSomeAnd (slice_get known i) (λ x. IsAt rom pc x)
+kept_at rom pc known i k lt is at place all =
+    let there : slice_get known i ≡ Some k = slice_get_read known (length known) i k refl lt is in
+    let right : IsKnown rom k = subst (λ x. IsKnown rom x) (sym is) (all i k lt) in
+    subst (λ o. IsSomeAnd o (λ x. IsAt rom pc x)) (sym there) (record { place = at; read = right.known (ap is_in_rom at ∙ place) })

@@ -1,14 +1,30 @@
 -- What a machine's decoder keeps.
-use Rattle.std.specs.Prelude.{◌≡◌, Some, List, length}
+use Rattle.std.specs.Prelude.{◌≡◌, ℕ, true, List}
 use Rattle.std.specs.List.{All}
-use Rattle.v8m_isa.specs.Table.{decode_of}
+use Rattle.cm_base.specs.declared.stop.Stop.{Stop}
+use Rattle.ns_types.specs.State.{State}
+use Rattle.ns_types.specs.Platform.{is_in_rom}
+use Rattle.v8m_isa.specs.Table.{in_range_of}
 use Rattle.v8m_core.specs.declared.decoder.Known.{Known}
+use Rattle.v8m_core.specs.Step.{act, step_of, stopped}
 
--- two halfwords and what they are
-pub record IsKnown (k : Known) : Type 0 where
-  pub is : decode_of k.first k.second ≡ Some (record { instr = k.instr; size = k.size })
+-- a step at its address is this instruction
+pub record IsRead (rom : List ℕ) (k : Known) : Type 0 where
+  pub range : in_range_of k.instr ≡ true
+  pub does : (s : State) → s.cpu.pc ≡ k.at → step_of rom s ≡ act rom k.instr k.size s
 
--- so many places, each of which is right
-pub record AreKnown (known : List Known) : Type 0 where
-  pub places : length known ≡ 1024
-  pub each : All IsKnown known
+-- a step at an address is this instruction
+pub record IsAt (rom : List ℕ) (at : ℕ) (k : Known) : Type 0 where
+  pub place : k.at ≡ at
+  pub read : IsRead rom k
+
+-- a step at an address stops
+abbrev pub NoneAt : List ℕ → ℕ → Stop → Type 0
+NoneAt rom at why = (s : State) → s.cpu.pc ≡ at → step_of rom s ≡ stopped why s
+
+-- what is kept of an address of ROM is what a step there is
+pub record IsKnown (rom : List ℕ) (k : Known) : Type 0 where
+  pub known : is_in_rom k.at ≡ true → IsRead rom k
+
+abbrev pub AreRead : List ℕ → List Known → Type 0
+AreRead rom known = All (IsKnown rom) known

@@ -1,9 +1,11 @@
 //! What an effect does to the state.
 
 ghost use Rattle.std.specs.Prelude.{◌≡◌, ◌+◌, ◌^◌, ◌<◌, IsTrue};
+ghost use Rattle.std.specs.Bool.{IsFalse, OnFalse, OnTrue};
+ghost use Rattle.ns_types.specs.State as states;
 ghost use Rattle.v8m_mem.specs.Rows.{is_size};
-ghost use Rattle.v8m_core.specs.Step.{apply, load_stop, pop_stop, popped, push_stop, pushed, signed, special, store_stop, write_register};
-ghost use Rattle.v8m_core.specs.Parts.{Exact, can_apply, done, is_short, state};
+ghost use Rattle.v8m_core.specs.Step.{apply, load_stop, pop_stop, push_stop, signed, special, store_stop, went, write_register};
+ghost use Rattle.v8m_core.specs.Parts.{Ends, EndsBy, can_apply, done, is_short, is_shown, passes_gate, shown, state};
 
 use crate::gates::{align, blxns, bx, bxns, limit_stop, link, stop};
 use crate::lists::{REGISTERS, all_readable, all_writable, bytes_of, load_all, store_all};
@@ -13,23 +15,24 @@ use cm_base::Stop;
 use ns_types::Cpu;
 use v8m_mem::{Memory, can_read, can_write, is_in_ns_ram};
 
-/// A write of a register by an instruction of a size; SP may not go below MSPLIM.
+/// A write of a register by an instruction of a size, or why it stops; SP may not go below MSPLIM.
+#[inline(always)]
 #[tactic(auto, unfolding(crate::specs::Step::write_register))]
-fn write_register(cpu: &mut Cpu, size: u32, d: u32, v: u32) -> Stepped
+fn write_register(cpu: &mut Cpu, size: u32, d: u32, v: u32) -> Option<Stop>
     requires reg { d < 15 }
     requires room { cpu.old.pc + size < 2 ^ 32 }
-    ensures { Exact (write_register size d v) cpu.old cpu.new result }
+    ensures { (m : states.Memory) → Ends (write_register size d v (state cpu.old m)) (state cpu.old m) (state cpu.new m) result }
 {
     if d == 13 {
         if let Some(why) = limit_stop(v, cpu) {
-            return stop(cpu, why);
+            return Some(why);
         }
         cpu.regs.sp = align(4, v);
     } else {
         cpu.regs.set(d, v);
     }
     cpu.pc += size;
-    Stepped::Went
+    None
 }
 
 /// Why a load stops, if it does.
@@ -77,45 +80,39 @@ fn special(cpu: &mut Cpu, k: u32, v: u32)
     }
 }
 
-/// Loads a register.
+/// Loads a register, or answers why it stops.
+#[inline(always)]
 #[tactic(auto, unfolding(crate::specs::Step::apply, crate::specs::Step::load_stop))]
-fn load(memory: &Memory, cpu: &mut Cpu, t: u32, at: u32, bytes: u8, size: u32) -> Stepped
+fn load(memory: &Memory, cpu: &mut Cpu, t: u32, at: u32, bytes: u8, size: u32) -> Option<Stop>
     requires reg { t < 15 }
     requires bytes { IsTrue (is_size bytes) }
     requires room { cpu.old.pc + size < 2 ^ 32 }
-    ensures { apply memory.now.rom (Effect.Load t at bytes) size (state cpu.old memory.now.memory) ≡ done cpu.new memory.now.memory result }
+    ensures { Ends (apply memory.now.rom (Effect.Load t at bytes) size (state cpu.old memory.now.memory)) (state cpu.old memory.now.memory) (state cpu.new memory.now.memory) result }
 {
-    if let Some(why) = load_stop(at, bytes) {
-        return stop(cpu, why);
+    let why = load_stop(at, bytes);
+    if why.is_none() {
+        let v = memory.load(at, bytes);
+        cpu.regs.set(t, v);
+        cpu.pc += size;
     }
-    let v = memory.load(at, bytes);
-    cpu.regs.set(t, v);
-    cpu.pc += size;
-    Stepped::Went
+    why
 }
 
-/// Stores a number.
+/// Stores a number, or answers why it stops.
+#[inline(always)]
 #[tactic(auto, unfolding(crate::specs::Step::apply, crate::specs::Step::store_stop))]
-fn store(memory: &mut Memory, cpu: &mut Cpu, at: u32, bytes: u8, v: u32, size: u32) -> Stepped
+fn store(memory: &mut Memory, cpu: &mut Cpu, at: u32, bytes: u8, v: u32, size: u32) -> Option<Stop>
     requires bytes { IsTrue (is_size bytes) }
     requires room { cpu.old.pc + size < 2 ^ 32 }
     ensures rom { memory.new.rom ≡ memory.old.rom }
-    ensures step { apply memory.old.rom (Effect.Store at bytes v) size (state cpu.old memory.old.memory) ≡ done cpu.new memory.new.memory result }
+    ensures step { EndsBy (shown (Effect.Store at bytes v)) (apply memory.old.rom (Effect.Store at bytes v) size (state cpu.old memory.old.memory)) (state cpu.old memory.old.memory) (state cpu.new memory.new.memory) result }
 {
-    if let Some(why) = store_stop(at, bytes) {
-        return stop(cpu, why);
+    let why = store_stop(at, bytes);
+    if why.is_none() {
+        memory.store(at, bytes, v);
+        cpu.pc += size;
     }
-    memory.store(at, bytes, v);
-    cpu.pc += size;
-    if is_in_ns_ram(at) {
-        Stepped::Wrote {
-            at,
-            size: bytes,
-            value: v,
-        }
-    } else {
-        Stepped::Went
-    }
+    why
 }
 
 /// A number of 1 or 2 bytes with its sign.
@@ -129,21 +126,29 @@ fn signed(size: u8, v: u32) -> u32
     }
 }
 
-/// Loads a register with a sign.
+/// Loads a register with a sign, or answers why it stops.
+#[inline(always)]
 #[tactic(auto, unfolding(crate::specs::Step::apply, crate::specs::Step::load_stop))]
-fn load_signed(memory: &Memory, cpu: &mut Cpu, t: u32, at: u32, bytes: u8, size: u32) -> Stepped
+fn load_signed(
+    memory: &Memory,
+    cpu: &mut Cpu,
+    t: u32,
+    at: u32,
+    bytes: u8,
+    size: u32,
+) -> Option<Stop>
     requires reg { t < 15 }
     requires bytes { IsTrue (is_short bytes) }
     requires room { cpu.old.pc + size < 2 ^ 32 }
-    ensures { apply memory.now.rom (Effect.LoadSigned t at bytes) size (state cpu.old memory.now.memory) ≡ done cpu.new memory.now.memory result }
+    ensures { Ends (apply memory.now.rom (Effect.LoadSigned t at bytes) size (state cpu.old memory.now.memory)) (state cpu.old memory.now.memory) (state cpu.new memory.now.memory) result }
 {
-    if let Some(why) = load_stop(at, bytes) {
-        return stop(cpu, why);
+    let why = load_stop(at, bytes);
+    if why.is_none() {
+        let v = signed(bytes, memory.load(at, bytes));
+        cpu.regs.set(t, v);
+        cpu.pc += size;
     }
-    let v = signed(bytes, memory.load(at, bytes));
-    cpu.regs.set(t, v);
-    cpu.pc += size;
-    Stepped::Went
+    why
 }
 
 /// Why a push stops, if it does.
@@ -165,21 +170,22 @@ fn push_stop(list: u32, cpu: &Cpu) -> Option<Stop>
     }
 }
 
-/// Pushes the registers of a list.
+/// Pushes the registers of a list, or answers why it stops.
+#[inline(never)]
 #[tactic(auto, unfolding(crate::specs::Step::apply, crate::specs::Step::push_stop, crate::specs::Step::pushed))]
-fn push(memory: &mut Memory, cpu: &mut Cpu, list: u32, size: u32) -> Stepped
+fn push(memory: &mut Memory, cpu: &mut Cpu, list: u32, size: u32) -> Option<Stop>
     requires room { cpu.old.pc + size < 2 ^ 32 }
     ensures rom { memory.new.rom ≡ memory.old.rom }
-    ensures step { apply memory.old.rom (Effect.Push list) size (state cpu.old memory.old.memory) ≡ done cpu.new memory.new.memory result }
+    ensures step { Ends (apply memory.old.rom (Effect.Push list) size (state cpu.old memory.old.memory)) (state cpu.old memory.old.memory) (state cpu.new memory.new.memory) result }
 {
-    if let Some(why) = push_stop(list, cpu) {
-        return stop(cpu, why);
+    let why = push_stop(list, cpu);
+    if why.is_none() {
+        let sp = cpu.regs.sp.wrapping_sub(bytes_of(list, &REGISTERS));
+        store_all(memory, &cpu.regs, list, &REGISTERS, sp);
+        cpu.regs.sp = align(4, sp);
+        cpu.pc += size;
     }
-    let sp = cpu.regs.sp.wrapping_sub(bytes_of(list, &REGISTERS));
-    store_all(memory, &cpu.regs, list, &REGISTERS, sp);
-    cpu.regs.sp = align(4, sp);
-    cpu.pc += size;
-    Stepped::Went
+    why
 }
 
 /// Why a pop stops, if it does.
@@ -201,34 +207,37 @@ fn pop_stop(list: u32, cpu: &Cpu) -> Option<Stop>
     }
 }
 
-/// Pops the registers of a list.
+/// Pops the registers of a list, or answers why it stops.
+#[inline(never)]
 #[tactic(auto, unfolding(crate::specs::Step::apply, crate::specs::Step::pop_stop, crate::specs::Step::popped))]
-fn pop(memory: &Memory, cpu: &mut Cpu, list: u32, size: u32) -> Stepped
+fn pop(memory: &Memory, cpu: &mut Cpu, list: u32, size: u32) -> Option<Stop>
     requires room { cpu.old.pc + size < 2 ^ 32 }
-    ensures { apply memory.now.rom (Effect.Pop list) size (state cpu.old memory.now.memory) ≡ done cpu.new memory.now.memory result }
+    ensures { Ends (apply memory.now.rom (Effect.Pop list) size (state cpu.old memory.now.memory)) (state cpu.old memory.now.memory) (state cpu.new memory.now.memory) result }
 {
-    if let Some(why) = pop_stop(list, cpu) {
-        return stop(cpu, why);
+    let why = pop_stop(list, cpu);
+    if why.is_none() {
+        let at = cpu.regs.sp;
+        let sp = at.wrapping_add(bytes_of(list, &REGISTERS));
+        load_all(memory, &mut cpu.regs, list, &REGISTERS, at);
+        cpu.regs.sp = align(4, sp);
+        cpu.pc += size;
     }
-    let at = cpu.regs.sp;
-    let sp = at.wrapping_add(bytes_of(list, &REGISTERS));
-    load_all(memory, &mut cpu.regs, list, &REGISTERS, at);
-    cpu.regs.sp = align(4, sp);
-    cpu.pc += size;
-    Stepped::Went
+    why
 }
 
-/// Applies an effect of an instruction of a size.
+/// Applies an effect that passes no gate, or answers why it stops and changes nothing.
+#[inline(always)]
 #[tactic(auto, unfolding(crate::specs::Step::apply))]
-pub fn apply(memory: &mut Memory, cpu: &mut Cpu, effect: Effect, size: u32) -> Stepped
+fn settle(memory: &mut Memory, cpu: &mut Cpu, effect: Effect, size: u32) -> Option<Stop>
     requires fits { IsTrue (can_apply effect) }
+    requires gate { IsFalse (passes_gate effect) }
     requires room { cpu.old.pc + size < 2 ^ 32 }
     ensures rom { memory.new.rom ≡ memory.old.rom }
-    ensures step { apply memory.old.rom effect size (state cpu.old memory.old.memory) ≡ done cpu.new memory.new.memory result }
+    ensures step { EndsBy (shown effect) (apply memory.old.rom effect size (state cpu.old memory.old.memory)) (state cpu.old memory.old.memory) (state cpu.new memory.new.memory) result }
 {
     match effect {
         Effect::Pass => cpu.pc += size,
-        Effect::Stop(why) => return stop(cpu, why),
+        Effect::Stop(why) => return Some(why),
         Effect::Put { d, v } => return write_register(cpu, size, d, v),
         Effect::Load { t, at, size: bytes } => return load(memory, cpu, t, at, bytes, size),
         Effect::Store { at, size: bytes, v } => return store(memory, cpu, at, bytes, v, size),
@@ -251,8 +260,75 @@ pub fn apply(memory: &mut Memory, cpu: &mut Cpu, effect: Effect, size: u32) -> S
             special(cpu, k, v);
         }
         Effect::Bx { v } => return bx(memory, cpu, v),
+        Effect::Bxns { v: _ } => {}
+        Effect::Blxns { v: _ } => {}
+    }
+    None
+}
+
+/// Whether a store is into Non-secure RAM, which an event shows.
+fn is_shown(effect: &Effect) -> bool
+    ensures { result ≡ is_shown effect.now }
+{
+    match *effect {
+        Effect::Store { at, size: _, v: _ } => is_in_ns_ram(at),
+        _ => false,
+    }
+}
+
+/// Whether an effect may end in Non-secure state.
+fn passes_gate(effect: &Effect) -> bool
+    ensures { result ≡ passes_gate effect.now }
+{
+    matches!(*effect, Effect::Bxns { v: _ } | Effect::Blxns { v: _ })
+}
+
+/// What the event of an effect is that passes no gate.
+fn shown(effect: &Effect) -> Stepped
+    ensures { result ≡ shown effect.now }
+{
+    match *effect {
+        Effect::Store { at, size, v } => {
+            if is_in_ns_ram(at) {
+                Stepped::Wrote { at, size, value: v }
+            } else {
+                Stepped::Went
+            }
+        }
+        _ => Stepped::Went,
+    }
+}
+
+/// Applies an effect of an instruction of a size.
+#[tactic(auto, unfolding(crate::specs::Step::apply))]
+pub fn apply(memory: &mut Memory, cpu: &mut Cpu, effect: Effect, size: u32) -> Stepped
+    requires fits { IsTrue (can_apply effect) }
+    requires room { cpu.old.pc + size < 2 ^ 32 }
+    ensures rom { memory.new.rom ≡ memory.old.rom }
+    ensures step { apply memory.old.rom effect size (state cpu.old memory.old.memory) ≡ done cpu.new memory.new.memory result }
+{
+    match effect {
         Effect::Bxns { v } => return bxns(memory, cpu, v),
         Effect::Blxns { v } => return blxns(memory, cpu, v, size),
+        _ => {}
     }
-    Stepped::Went
+    match settle(memory, cpu, effect, size) {
+        Some(why) => stop(cpu, why),
+        None => shown(&effect),
+    }
+}
+
+/// Applies an effect that only goes on, or answers false and changes nothing.
+#[inline(always)]
+pub fn go_on(memory: &mut Memory, cpu: &mut Cpu, effect: Effect, size: u32) -> bool
+    requires fits { IsTrue (can_apply effect) }
+    requires room { cpu.old.pc + size < 2 ^ 32 }
+    ensures rom { memory.new.rom ≡ memory.old.rom }
+    ensures on { OnTrue result (apply memory.old.rom effect size (state cpu.old memory.old.memory) ≡ went (state cpu.new memory.new.memory)) }
+    ensures kept { OnFalse result (state cpu.new memory.new.memory ≡ state cpu.old memory.old.memory) }
+{
+    if passes_gate(&effect) || is_shown(&effect) {
+        return false;
+    }
+    settle(memory, cpu, effect, size).is_none()
 }

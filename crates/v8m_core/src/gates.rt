@@ -3,7 +3,7 @@
 ghost use Rattle.std.specs.Prelude.{◌≡◌, ◌+◌, ◌^◌, ◌<◌, IsTrue, None};
 ghost use Rattle.ns_types.specs.Platform.{aligned};
 ghost use Rattle.v8m_core.specs.Step.{arrived, blxns, bx, bxns, call_stop, called, called_at, entered_cpu, limit_stop, link, goes_in, is_gateway, only_stopped, return_stop, return_to, seen};
-ghost use Rattle.v8m_core.specs.Parts.{done, entry_of, is_quiet, state};
+ghost use Rattle.v8m_core.specs.Parts.{Ends, done, entry_of, is_quiet, state};
 
 use crate::Stepped;
 use cm_base::Stop;
@@ -100,19 +100,30 @@ fn return_stop(memory: &Memory, cpu: &Cpu) -> Option<Stop>
 }
 
 /// A function return: back to Secure code by the two words at SP.
+#[inline(never)]
 #[tactic(auto, unfolding(crate::specs::Step::return_to, crate::specs::Step::return_stop, ns_types::specs::Platform::is_readable))]
-fn return_to(memory: &Memory, cpu: &mut Cpu) -> Stepped
+fn return_to(memory: &Memory, cpu: &mut Cpu) -> Option<Stop>
+    ensures { Ends (return_to memory.now.rom (state cpu.old memory.now.memory)) (state cpu.old memory.now.memory) (state cpu.new memory.now.memory) result }
+{
+    let why = return_stop(memory, cpu);
+    if why.is_none() {
+        let sp = cpu.regs.sp;
+        cpu.pc = align(2, memory.load(sp, 4));
+        cpu.regs.sp = sp + 8;
+        cpu.side = Side::Secure;
+    }
+    why
+}
+
+/// A function return that stops the machine where it stops.
+fn returned(memory: &Memory, cpu: &mut Cpu) -> Stepped
     ensures step { return_to memory.now.rom (state cpu.old memory.now.memory) ≡ done cpu.new memory.now.memory result }
     ensures quiet { IsTrue (is_quiet result) }
 {
-    if let Some(why) = return_stop(memory, cpu) {
-        return stop(cpu, why);
+    match return_to(memory, cpu) {
+        Some(why) => stop(cpu, why),
+        None => Stepped::Went,
     }
-    let sp = cpu.regs.sp;
-    cpu.pc = align(2, memory.load(sp, 4));
-    cpu.regs.sp = sp + 8;
-    cpu.side = Side::Secure;
-    Stepped::Went
 }
 
 /// Enters by the gateway at an address.
@@ -137,7 +148,7 @@ pub fn arrive(memory: &Memory, cpu: &mut Cpu, target: u32, at: u32, show: Steppe
             enter(cpu, e);
             Stepped::Went
         }
-        Goes::Return => return_to(memory, cpu),
+        Goes::Return => returned(memory, cpu),
         Goes::Turn => {
             cpu.side = Side::NonSecure;
             cpu.pc = at;
@@ -154,7 +165,7 @@ pub fn bxns(memory: &Memory, cpu: &mut Cpu, v: u32) -> Stepped
     ensures { bxns memory.now.rom v (state cpu.old memory.now.memory) ≡ done cpu.new memory.now.memory result }
 {
     if align(2, v) == FUNCTION_RETURN {
-        return return_to(memory, cpu);
+        return returned(memory, cpu);
     }
     if v % 2 == 0 {
         let view = seen(cpu, v);
@@ -169,17 +180,17 @@ pub fn bxns(memory: &Memory, cpu: &mut Cpu, v: u32) -> Stepped
 
 /// BX: a function return, or a branch in Secure state to an address with bit 0 set.
 #[tactic(auto, unfolding(crate::specs::Step::bx))]
-pub fn bx(memory: &Memory, cpu: &mut Cpu, v: u32) -> Stepped
-    ensures { bx memory.now.rom v (state cpu.old memory.now.memory) ≡ done cpu.new memory.now.memory result }
+pub fn bx(memory: &Memory, cpu: &mut Cpu, v: u32) -> Option<Stop>
+    ensures { Ends (bx memory.now.rom v (state cpu.old memory.now.memory)) (state cpu.old memory.now.memory) (state cpu.new memory.now.memory) result }
 {
     if align(2, v) == FUNCTION_RETURN {
         return return_to(memory, cpu);
     }
     if v % 2 == 0 || !is_in_rom(v - 1) {
-        return stop(cpu, Stop::BadState);
+        return Some(Stop::BadState);
     }
     cpu.pc = v - 1;
-    Stepped::Went
+    None
 }
 
 /// Why a new number for SP stops, if it does.

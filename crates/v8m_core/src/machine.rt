@@ -1,16 +1,18 @@
 //! The machine, and one step of Secure code.
 
-ghost use Rattle.std.specs.Prelude.{◌≡◌, ◌+◌, ◌^◌, ◌<◌, true, false, IfOk, IsTrue, MatchOption, Some, length};
+ghost use Rattle.std.specs.Prelude.{◌≡◌, ◌≤◌, IfOk, IsTrue, length};
+ghost use Rattle.std.specs.Bool.{OnFalse, OnTrue};
 ghost use Rattle.ns_types.specs.declared.state.Side.TheVariants as sides;
 ghost use Rattle.ns_types.specs.Boundary.{acted};
-ghost use Rattle.v8m_isa.specs.Table.{decode_of, in_range_of, is_narrow};
 ghost use Rattle.v8m_mem.specs.Rows.{IsStart};
-ghost use Rattle.v8m_core.specs.Step.{act, step_of, turn_of};
+ghost use Rattle.v8m_core.specs.Code.{Comes};
+ghost use Rattle.v8m_core.specs.Known.{AreRead};
+ghost use Rattle.v8m_core.specs.Step.{step_of, turn_of, went};
 ghost use Rattle.v8m_core.specs.Parts.{done, is_quiet, state};
 ghost use Rattle.v8m_core.specs.Reset.{reset_cpu, reset_of};
 
 use crate::Stepped;
-use crate::applying::apply;
+use crate::applying::{self, apply};
 use crate::decoder::Decoder;
 use crate::gates::{align, stop};
 use crate::operands::effect_of;
@@ -19,8 +21,7 @@ use cm_base::{Bytes, NoMemory, PLATFORM, Stop};
 use ns_types::{Cpu, Regs, Side, Start, Turn};
 use std::alloc::Global;
 use std::marker::Model;
-use v8m_isa::Instr;
-use v8m_mem::{Memory, is_in_rom};
+use v8m_mem::Memory;
 
 /// The bytes of Secure ROM and of the Non-secure callable region behind it: 4 MB.
 #[derive(Debug, Drop)]
@@ -38,10 +39,13 @@ pub struct Machine {
 
 impl Model for Machine {
     ghost use Rattle.ns_types.specs.State.{Whole};
+    ghost use Rattle.v8m_core.specs.Known.{AreRead};
 
     ghost Value = { Whole };
 
     ghost view = { λ m. record { rom = m.memory.rom; state = record { cpu = m.cpu; memory = m.memory.memory } } };
+
+    ghost invariant = { λ m. AreRead m.memory.rom m.decoder };
 }
 
 /// The processor at reset (DDI0553, Reset).
@@ -80,54 +84,39 @@ fn reset_cpu(memory: &Memory) -> Cpu
     }
 }
 
-/// The least halfword that begins an instruction of two (DDI0553, Thumb instruction set encoding).
-const FIRST_OF_TWO: u16 = 0xE800;
-
-/// The instruction that a halfword is by itself.
-fn narrow(decoder: &mut Decoder, first: u16) -> Option<Instr>
-    ensures { MatchOption result (is_narrow first ≡ false)
-        (λ i. (decode_of first 0 ≡ Some (record { instr = i; size = 2 })) × (in_range_of i ≡ true)) }
-{
-    if first >= FIRST_OF_TWO {
-        return None;
-    }
-    match decoder.decode(first, 0) {
-        Some((instr, size)) => { if size == 2 { Some(instr) } else { None } }
-        None => None,
-    }
-}
-
-/// An instruction of a size in Secure state.
-fn act(memory: &mut Memory, cpu: &mut Cpu, instr: &Instr, size: u8) -> Stepped
-    requires range { in_range_of instr.now ≡ true }
-    requires room { cpu.old.pc + 256 < 2 ^ 32 }
-    ensures rom { memory.new.rom ≡ memory.old.rom }
-    ensures step { act memory.old.rom instr.now size (state cpu.old memory.old.memory) ≡ done cpu.new memory.new.memory result }
-{
-    let effect = effect_of(cpu, instr);
-    apply(memory, cpu, effect, size as u32)
-}
-
 /// One step in Secure state.
-#[tactic(auto, unfolding(crate::specs::Step::step_of))]
 fn step(memory: &mut Memory, cpu: &mut Cpu, decoder: &mut Decoder) -> Stepped
+    requires { AreRead memory.old.rom decoder.old }
     ensures rom { memory.new.rom ≡ memory.old.rom }
+    ensures kept { AreRead memory.new.rom decoder.new }
     ensures step { step_of memory.old.rom (state cpu.old memory.old.memory) ≡ done cpu.new memory.new.memory result }
 {
-    let pc = cpu.pc;
-    if !is_in_rom(pc) {
-        return stop(cpu, Stop::BadState);
+    match decoder.find(memory, cpu.pc) {
+        Ok(place) => {
+            let known = decoder.at(place);
+            let effect = effect_of(cpu, &known.instr);
+            apply(memory, cpu, effect, known.size as u32)
+        }
+        Err(why) => stop(cpu, why),
     }
-    let first = memory.half(pc);
-    if let Some(instr) = narrow(decoder, first) {
-        return act(memory, cpu, &instr, 2);
-    }
-    if !is_in_rom(pc + 2) {
-        return stop(cpu, Stop::BadState);
-    }
-    match decoder.decode(first, memory.half(pc + 2)) {
-        Some((instr, size)) => act(memory, cpu, &instr, size),
-        None => stop(cpu, Stop::Undefined),
+}
+
+/// One step in Secure state, if it only goes on; else nothing changes.
+#[inline(always)]
+fn go_on(memory: &mut Memory, cpu: &mut Cpu, decoder: &mut Decoder) -> bool
+    requires { AreRead memory.old.rom decoder.old }
+    ensures rom { memory.new.rom ≡ memory.old.rom }
+    ensures kept { AreRead memory.new.rom decoder.new }
+    ensures on { OnTrue result (step_of memory.old.rom (state cpu.old memory.old.memory) ≡ went (state cpu.new memory.new.memory)) }
+    ensures still { OnFalse result (state cpu.new memory.new.memory ≡ state cpu.old memory.old.memory) }
+{
+    match decoder.find(memory, cpu.pc) {
+        Ok(place) => {
+            let known = decoder.at(place);
+            let effect = effect_of(cpu, &known.instr);
+            applying::go_on(memory, cpu, effect, known.size as u32)
+        }
+        Err(_) => false,
     }
 }
 
@@ -169,6 +158,21 @@ impl Machine {
         ensures step { step_of self.old.rom self.old.state ≡ record { state = self.new.state; what = result } }
     {
         step(&mut self.memory, &mut self.cpu, &mut self.decoder)
+    }
+
+    /// Takes steps that only go on, at most so many, and answers how many: the next one may end the run or make an event.
+    pub fn go_on(&mut self, most: u64) -> u64
+        requires { self.old.state.cpu.side ≡ sides.Secure }
+        ensures rom { self.new.rom ≡ self.old.rom }
+        ensures most { result ≤ most }
+        ensures steps { Comes self.old.rom result self.old.state self.new.state }
+    {
+        for taken in 0..most {
+            if !go_on(&mut self.memory, &mut self.cpu, &mut self.decoder) {
+                return taken;
+            }
+        }
+        most
     }
 
     /// One turn of Non-secure code: Went or Stopped. Its Write items change Non-secure RAM, also where it stops.

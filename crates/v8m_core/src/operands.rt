@@ -19,6 +19,7 @@ use v8m_isa::Instr;
 use v8m_mem::target;
 
 /// A write of a register.
+#[inline(always)]
 fn put(d: u32, v: u32) -> Effect
     ensures { result ≡ Effect.Put d v }
 {
@@ -26,6 +27,7 @@ fn put(d: u32, v: u32) -> Effect
 }
 
 /// Moves and extensions.
+#[inline(always)]
 #[tactic(auto, unfolding(v8m_isa::specs::Table::in_range_of))]
 fn moved(cpu: &Cpu, instr: &Instr) -> Option<Effect>
     requires { IsTrue (in_range_of instr.now) }
@@ -51,6 +53,7 @@ fn moved(cpu: &Cpu, instr: &Instr) -> Option<Effect>
 }
 
 /// Arithmetic.
+#[inline(always)]
 #[tactic(auto, unfolding(v8m_isa::specs::Table::in_range_of))]
 fn computed(cpu: &Cpu, instr: &Instr) -> Option<Effect>
     requires { IsTrue (in_range_of instr.now) }
@@ -80,6 +83,7 @@ fn computed(cpu: &Cpu, instr: &Instr) -> Option<Effect>
 }
 
 /// Bits, and shifts by the low byte of m.
+#[inline(always)]
 #[tactic(auto, unfolding(v8m_isa::specs::Table::in_range_of))]
 fn bitwise(cpu: &Cpu, instr: &Instr) -> Option<Effect>
     requires { IsTrue (in_range_of instr.now) }
@@ -101,6 +105,7 @@ fn bitwise(cpu: &Cpu, instr: &Instr) -> Option<Effect>
 }
 
 /// A load of `size` bytes at register n plus i.
+#[inline(always)]
 fn load(cpu: &Cpu, t: u32, n: u32, i: u32, size: u8) -> Effect
     requires { n < 15 }
     ensures { result ≡ Effect.Load t (sum32 (get_of cpu.now.regs n) i) size }
@@ -110,6 +115,7 @@ fn load(cpu: &Cpu, t: u32, n: u32, i: u32, size: u8) -> Effect
 }
 
 /// The same with a sign.
+#[inline(always)]
 fn load_signed(cpu: &Cpu, t: u32, n: u32, i: u32, size: u8) -> Effect
     requires { n < 15 }
     ensures { result ≡ Effect.LoadSigned t (sum32 (get_of cpu.now.regs n) i) size }
@@ -119,6 +125,7 @@ fn load_signed(cpu: &Cpu, t: u32, n: u32, i: u32, size: u8) -> Effect
 }
 
 /// A store of `size` bytes at register n plus i.
+#[inline(always)]
 fn store(cpu: &Cpu, n: u32, i: u32, size: u8, v: u32) -> Effect
     requires { n < 15 }
     ensures { result ≡ Effect.Store (sum32 (get_of cpu.now.regs n) i) size v }
@@ -128,6 +135,7 @@ fn store(cpu: &Cpu, n: u32, i: u32, size: u8, v: u32) -> Effect
 }
 
 /// Loads and stores.
+#[inline(always)]
 #[tactic(auto, unfolding(v8m_isa::specs::Table::in_range_of))]
 fn accessed(cpu: &Cpu, instr: &Instr) -> Option<Effect>
     requires { IsTrue (in_range_of instr.now) }
@@ -173,6 +181,7 @@ fn branch_target(cpu: &Cpu, off: u32) -> u32
 }
 
 /// Branches.
+#[inline(always)]
 #[tactic(auto, unfolding(v8m_isa::specs::Table::in_range_of))]
 fn branched(cpu: &Cpu, instr: &Instr) -> Option<Effect>
     requires range { IsTrue (in_range_of instr.now) }
@@ -228,6 +237,7 @@ fn special_of(cpu: &Cpu, k: u32) -> u32
 }
 
 /// Special registers, and the answers of TT.
+#[inline(always)]
 #[tactic(auto, unfolding(v8m_isa::specs::Table::in_range_of))]
 fn named(cpu: &Cpu, instr: &Instr) -> Option<Effect>
     requires { IsTrue (in_range_of instr.now) }
@@ -247,6 +257,7 @@ fn named(cpu: &Cpu, instr: &Instr) -> Option<Effect>
 }
 
 /// The effect of an instruction with its operands read.
+#[inline(always)]
 #[tactic(auto, unfolding(crate::specs::Step::effect_of))]
 pub fn effect_of(cpu: &Cpu, instr: &Instr) -> Effect
     requires range { IsTrue (in_range_of instr.now) }

@@ -1,7 +1,7 @@
 use Rattle.std.proofs.Common.{arith, sym}
 use Rattle.v8m_isa.proofs.Laws.{narrow_above}
 use Rattle.v8m_core.proofs.Steps.{narrow_none, narrow_not, read_none, read_some}
-use Rattle.v8m_core.proofs.machine.narrow.Goals as goal
+use Rattle.v8m_core.proofs.decoder.narrow.Goals as goal
 
 pub returns-in-None : goal.returns-in-None
 returns-in-None c = narrow_none c.args.first (read_none _ c.in-None.ensures.is)
