@@ -1,3 +1,1 @@
-pub mod LevelLaws
-pub mod Chains
 pub mod AnswerLaws

@@ -2,16 +2,8 @@
 //! that derives from the front of the tokens. `left` is how many counted parts may still be entered.
 #![tactic(auto)]
 
-mod attrs;
-mod declarators;
-mod decls;
-mod exprs;
-mod levels;
 mod names;
-mod nodes;
 pub mod parser;
-mod stmts;
-mod types;
 mod units;
 
 pub use parser::{MAX_NESTING, SyntaxFault, parse};

@@ -3,16 +3,16 @@
 ghost use Rattle.c_grammar.specs.Tokens.{Gives};
 ghost use Rattle.c_grammar.specs.Reading as spec;
 
-use crate::attrs::attrs;
-use crate::declarators::declarator;
-use crate::decls::{initial, more_inits};
 use crate::names::{added, header_names};
-use crate::nodes::alone;
-use crate::stmts::block;
-use crate::types::specs;
 use c_ast::{Attr, Decl, Declarator, External, Function, Init, Spec};
+use c_exprs::declarators::declarator;
+use c_exprs::types::specs;
 use c_grammar::tokens::{Read, Sign, expect, has_include, next_is, take_include};
 use c_lex::token::{Punct, Token};
+use c_nodes::attrs::attrs;
+use c_nodes::nodes::alone;
+use c_stmts::decls::{initial, more_inits};
+use c_stmts::stmts::block;
 use cm_base::{List, Text};
 use std::alloc::Global;
 
@@ -234,7 +234,7 @@ fn part_of_unit<'a>(alloc: Global, left: usize, so_far: SoFar, ts: &'a [Token]) 
 }
 
 /// unit = { INCLUDE | decl | function }
-#[tactic(auto, using(crate::proofs::LevelLaws::repeat_rules), unfolding(c_grammar::specs::Reading::read_unit))]
+#[tactic(auto, using(c_nodes::proofs::LevelLaws::repeat_rules), unfolding(c_grammar::specs::Reading::read_unit))]
 pub fn unit<'a>(alloc: Global, left: usize, ts: &'a [Token]) -> Read<'a, SoFar>
     ensures { Gives (λ x. ((x.0.names, x.0.parts), x.1.now)) result (spec.read_unit left ts.now) }
 {

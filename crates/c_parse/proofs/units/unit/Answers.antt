@@ -1,6 +1,6 @@
 use Rattle.std.proofs.Common.{◌≡◌, length, true, rules}
 use Rattle.c_grammar.specs.Reading as spec
-use Rattle.c_parse.proofs.LevelLaws.{goes_on}
+use Rattle.c_nodes.proofs.LevelLaws.{goes_on}
 use Rattle.c_parse.proofs.units.unit.Goals as goal
 
 pub loop-preserved : goal.loop-preserved

@@ -1,0 +1,13 @@
+use Rattle.std.proofs.Common.{◌≡◌, length, true, rules}
+use Rattle.c_lex.specs.declared.token.Punct.TheVariants as mark
+use Rattle.c_grammar.specs.declared.tokens.Sign.TheVariants.{Mark}
+use Rattle.c_grammar.specs.Tokens.{next_is}
+use Rattle.c_grammar.specs.Reading.{levels}
+use Rattle.c_grammar.specs.Reading as spec
+use Rattle.c_nodes.proofs.LevelLaws.{goes_on}
+use Rattle.c_stmts.proofs.decls.more_inits.Goals as goal
+
+pub loop-preserved : goal.loop-preserved
+loop-preserved c =
+    let h : (next_is (Mark mark.Comma)) c.loop.rest.now ≡ true = search rules in
+    goes_on (next_is (Mark mark.Comma)) (spec.read_init_item c.args.names.now (levels c.args.names.now c.args.left)) (length c.args.ts.now) c.loop.counter _ _ _ _ _ c.loop-test.true h c.in_ok-more.ensures c.loop.invariant
