@@ -90,11 +90,11 @@ pub fn assign<'a>(alloc: Global, names: &[Text], left: usize, ts: &'a [Token]) -
         return Err(deep_if(begins_expr(names, ts), ts));
     }
     let left = left - 1;
-    let (place, rest) = cond(alloc, names, left, ts)?;
+    let (first, rest) = cond(alloc, names, left, ts)?;
     if has_assign_op(rest) {
-        return assigned(alloc, names, left, place, rest);
+        return assigned(alloc, names, left, first, rest);
     }
-    Ok((place, rest))
+    Ok((first, rest))
 }
 
 /// aop assign, after its cond.
