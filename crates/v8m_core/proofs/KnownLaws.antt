@@ -1,14 +1,19 @@
--- What a decoder keeps at first.
+-- What a decoder keeps.
 use Rattle.std.specs.List.{All}
-use Rattle.std.proofs.Common.{◌≡◌, ◌<◌, ◌∙◌, refl, ap, sym, subst, true, List, ℕ, replicate, length, Some, slice_index_or, slice_set}
+use Rattle.std.proofs.Common.{◌≡◌, ◌<◌, ◌∙◌, refl, ap, sym, subst, true, List, ℕ, replicate, length, Option, None, Some, slice_index_or, slice_set}
 use Rattle.std.specs.Prelude.{IsSomeAnd, slice_get}
 use Rattle.std.proofs.lemmas.List.{get_or-set_same, length-replicate, length-set}
 use Rattle.std.proofs.lemmas.Option.{slice_get-get_or, slice_get_read}
 use Rattle.ns_types.specs.Platform.{is_in_rom}
 use Rattle.std.proofs.lemmas.List.Elements.{All-replicate}
+use Rattle.cm_base.specs.declared.stop.Stop.{Stop}
+use Rattle.cm_base.specs.declared.stop.Stop.TheVariants as stop
+use Rattle.ns_types.specs.State.{State}
 use Rattle.v8m_isa.specs.declared.instr.Instr.TheVariants.{Nop}
+use Rattle.v8m_isa.specs.Table.{Decoded, in_range_of}
 use Rattle.v8m_core.specs.declared.decoder.Known.{Known}
-use Rattle.v8m_core.specs.Known.{AreRead, IsAt, IsKnown}
+use Rattle.v8m_core.specs.Known.{AreRead, IsAt, IsKnown, NoneAt}
+use Rattle.v8m_core.specs.Step.{act_or, step_of, stopped}
 
 abbrev pub unused : Known
 unused = record { at = 0; instr = Nop; size = 2 }
@@ -35,3 +40,10 @@ kept_at rom pc known i k lt is at place all =
     let there : slice_get known i ≡ Some k = slice_get_read known (length known) i k refl lt is in
     let right : IsKnown rom k = subst (λ x. IsKnown rom x) (sym is) (all i k lt) in
     subst (λ o. IsSomeAnd o (λ x. IsAt rom pc x)) (sym there) (record { place = at; read = right.known (ap is_in_rom at ∙ place) })
+
+-- what was decoded of the halfwords that a step takes is what a step there is
+pub read_at : (rom : List ℕ) (at : ℕ) (o : Option Decoded) → ((s : State) → s.cpu.pc ≡ at → step_of rom s ≡ act_or rom o s) → (k : Known) → (k.at ≡ at) × (in_range_of k.instr ≡ true) × (o ≡ Some (record { instr = k.instr; size = k.size })) → IsAt rom at k
+read_at rom at o does k h = record { place = h.0; read = record { range = h.1; does = λ s pc. does s (pc ∙ h.0) ∙ ap (λ d. act_or rom d s) h.2 } }
+
+pub none_at : (rom : List ℕ) (at : ℕ) (o : Option Decoded) → ((s : State) → s.cpu.pc ≡ at → step_of rom s ≡ act_or rom o s) → (why : Stop) → (why ≡ stop.Undefined) × (o ≡ None) → NoneAt rom at why
+none_at rom at o does why h = λ s pc. does s pc ∙ ap (λ d. act_or rom d s) h.1 ∙ ap (λ x. stopped x s) (sym h.0)

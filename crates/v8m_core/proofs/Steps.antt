@@ -1,13 +1,12 @@
 -- What a step is, by the halfwords that are fetched.
-use Rattle.std.proofs.Common.{◌≡◌, ◌≢◌, ◌+◌, ℕ, true, false, List, refl, sym, ap, ◌∙◌, arith, Option, Some, None}
+use Rattle.std.proofs.Common.{◌≡◌, ◌+◌, ℕ, true, false, List, refl, sym, ap, Option, Some, None}
 use Rattle.std.specs.Prelude.{option_map}
-use Rattle.std.proofs.lemmas.Bool.Decides.{nat_tests}
 use Rattle.v8m_isa.specs.declared.instr.Instr.{Instr}
-use Rattle.v8m_isa.specs.Table.{Decoded, decode_of, is_narrow, is_of_two_bytes, pair_of}
+use Rattle.v8m_isa.specs.Table.{Decoded, decode_of, is_narrow, pair_of}
 use Rattle.ns_types.specs.State.{State}
 use Rattle.ns_types.specs.Platform.{is_in_rom}
 use Rattle.cm_base.specs.declared.stop.Stop.TheVariants as stop
-use Rattle.v8m_core.specs.Step.{fetched, act, step_of, stopped}
+use Rattle.v8m_core.specs.Step.{fetched, act_or, step_of, stopped}
 
 -- what was decoded, by the pair that the code has
 pub read_none : (o : Option Decoded) → None ≡ option_map pair_of o → o ≡ None
@@ -20,30 +19,18 @@ read_some (Some d) i n e =
     let p : (i, n) ≡ pair_of d = cc in
     ap (λ q. Some (record { instr = q.0; size = q.1 })) (sym p)
 
-pub narrow_none : (first : ℕ) → decode_of first 0 ≡ None → is_narrow first ≡ false
-unfolding is_narrow
-narrow_none first e = ap is_of_two_bytes e
-
-pub narrow_not : (first : ℕ) (i : Instr) (n : ℕ) → decode_of first 0 ≡ Some (record { instr = i; size = n }) → n ≢ 2 → is_narrow first ≡ false
-unfolding is_narrow
-narrow_not first i n e ne = ap is_of_two_bytes e ∙ grind (arith, nat_tests)
-
 -- a step at an address of ROM, by what is read there
-pub step_narrow : (rom : List ℕ) (s : State) (at : ℕ) (i : Instr) → s.cpu.pc ≡ at → is_in_rom at ≡ true → decode_of (fetched rom at) 0 ≡ Some (record { instr = i; size = 2 }) → step_of rom s ≡ act rom i 2 s
-unfolding step_of is_narrow
-step_narrow rom s at i pc place e = rw (pc, place, e) refl
-
-pub step_wide : (rom : List ℕ) (s : State) (at : ℕ) (i : Instr) (n : ℕ) → s.cpu.pc ≡ at → is_in_rom at ≡ true → is_narrow (fetched rom at) ≡ false → is_in_rom (at + 2) ≡ true → decode_of (fetched rom at) (fetched rom (at + 2)) ≡ Some (record { instr = i; size = n }) → step_of rom s ≡ act rom i n s
+pub step_narrow : (rom : List ℕ) (at first : ℕ) → is_in_rom at ≡ true → first ≡ fetched rom at → is_narrow first ≡ true → (s : State) → s.cpu.pc ≡ at → step_of rom s ≡ act_or rom (decode_of first 0) s
 unfolding step_of
-step_wide rom s at i n pc place narrow second e = rw (pc, place, narrow, second, e) refl
+step_narrow rom at first place is narrow s pc = rw (pc, place, sym is, narrow) refl
 
-pub step_none : (rom : List ℕ) (s : State) (at : ℕ) → s.cpu.pc ≡ at → is_in_rom at ≡ true → is_narrow (fetched rom at) ≡ false → is_in_rom (at + 2) ≡ true → decode_of (fetched rom at) (fetched rom (at + 2)) ≡ None → step_of rom s ≡ stopped stop.Undefined s
+pub step_wide : (rom : List ℕ) (at first second : ℕ) → is_in_rom at ≡ true → first ≡ fetched rom at → is_narrow first ≡ false → is_in_rom (at + 2) ≡ true → second ≡ fetched rom (at + 2) → (s : State) → s.cpu.pc ≡ at → step_of rom s ≡ act_or rom (decode_of first second) s
 unfolding step_of
-step_none rom s at pc place narrow second e = rw (pc, place, narrow, second, e) refl
+step_wide rom at first second place is narrow behind is2 s pc = rw (pc, place, sym is, narrow, behind, sym is2) refl
 
-pub step_short : (rom : List ℕ) (s : State) (at : ℕ) → s.cpu.pc ≡ at → is_in_rom at ≡ true → is_narrow (fetched rom at) ≡ false → is_in_rom (at + 2) ≡ false → step_of rom s ≡ stopped stop.BadState s
+pub step_short : (rom : List ℕ) (at first : ℕ) → is_in_rom at ≡ true → first ≡ fetched rom at → is_narrow first ≡ false → is_in_rom (at + 2) ≡ false → (s : State) → s.cpu.pc ≡ at → step_of rom s ≡ stopped stop.BadState s
 unfolding step_of
-step_short rom s at pc place narrow second = rw (pc, place, narrow, second) refl
+step_short rom at first place is narrow behind s pc = rw (pc, place, sym is, narrow, behind) refl
 
 pub step_out : (rom : List ℕ) (s : State) (at : ℕ) → s.cpu.pc ≡ at → is_in_rom at ≡ false → step_of rom s ≡ stopped stop.BadState s
 unfolding step_of

@@ -1,14 +1,15 @@
 //! The instructions of Secure ROM, each decoded once.
 
-ghost use Rattle.std.specs.Prelude.{◌≡◌, ℕ, true, false, IfOk, IfErr, IsSome, IsSomeAnd, MatchOption, List, Some, slice_get};
+ghost use Rattle.std.specs.Prelude.{◌≡◌, ℕ, true, IfOk, IfErr, IsSome, IsSomeAnd, List, None, Some, slice_get};
+ghost use Rattle.cm_base.specs.declared.stop.Stop.TheVariants as stop;
 ghost use Rattle.ns_types.specs.Platform.{is_in_rom};
-ghost use Rattle.v8m_isa.specs.Table.{decode_of, in_range_of, is_narrow};
+ghost use Rattle.v8m_isa.specs.Table.{decode_of, in_range_of};
 ghost use Rattle.v8m_core.specs.Known.{AreRead, IsAt, NoneAt};
 
 use cm_base::{NoMemory, Stop};
 use std::alloc::Global;
 use std::marker::Model;
-use v8m_isa::{Instr, decode};
+use v8m_isa::{Instr, decode, is_narrow};
 use v8m_mem::{Memory, is_in_rom};
 
 /// The instruction at an address, with its size in bytes.
@@ -29,20 +30,14 @@ const UNUSED: Known = Known {
     size: 2,
 };
 
-/// The least halfword that begins an instruction of two (DDI0553, Thumb instruction set encoding).
-const FIRST_OF_TWO: u16 = 0xE800;
-
-/// The instruction that a halfword is by itself.
-fn narrow(first: u16) -> Option<Instr>
-    ensures { MatchOption result (is_narrow first ≡ false)
-        (λ i. (decode_of first 0 ≡ Some (record { instr = i; size = 2 })) × (in_range_of i ≡ true)) }
+/// The instruction of these halfwords at an address.
+fn decoded(at: u32, first: u16, second: u16) -> Result<Known, Stop>
+    ensures ok { IfOk result (λ k. (k.at ≡ at) × (in_range_of k.instr ≡ true) × (decode_of first second ≡ Some (record { instr = k.instr; size = k.size }))) }
+    ensures err { IfErr result (λ why. (why ≡ stop.Undefined) × (decode_of first second ≡ None)) }
 {
-    if first >= FIRST_OF_TWO {
-        return None;
-    }
-    match decode(first, 0) {
-        Some((instr, size)) => { if size == 2 { Some(instr) } else { None } }
-        None => None,
+    match decode(first, second) {
+        Some((instr, size)) => Ok(Known { at, instr, size }),
+        None => Err(Stop::Undefined),
     }
 }
 
@@ -54,16 +49,13 @@ fn read(memory: &Memory, at: u32) -> Result<Known, Stop>
     ensures err { IfErr result (λ why. NoneAt memory.now.rom at why) }
 {
     let first = memory.half(at);
-    if let Some(instr) = narrow(first) {
-        return Ok(Known { at, instr, size: 2 });
+    if is_narrow(first) {
+        return decoded(at, first, 0);
     }
     if !is_in_rom(at + 2) {
         return Err(Stop::BadState);
     }
-    match decode(first, memory.half(at + 2)) {
-        Some((instr, size)) => Ok(Known { at, instr, size }),
-        None => Err(Stop::Undefined),
-    }
+    decoded(at, first, memory.half(at + 2))
 }
 
 /// A decoder that keeps what it has decoded: code that runs again is decoded once.
