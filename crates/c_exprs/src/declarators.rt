@@ -14,8 +14,9 @@ use c_grammar::tokens::{Read, Sign, expect, next_is, next_is_name, take_name};
 use c_lex::token::{Keyword, Punct, Token};
 use c_nodes::attrs::stars;
 use c_nodes::levels::{deep_if, no_either, no_nameless, opens_name};
-use c_nodes::nodes::{abstract_around, alone, around, either_around, param_of};
+use c_nodes::nodes::{abstract_around, alone, around, either_around, opened, param_of};
 use cm_base::{List, Text};
+use sqlite_items::Boxed;
 use std::alloc::Global;
 
 /// declarator = stars ( NAME | "(" declarator ")" ) { suffix }
@@ -146,7 +147,7 @@ fn array_suffix<'a>(alloc: Global, names: &[Text], left: usize, ts: &'a [Token])
     let (place, rest) = expect(ts, Sign::Mark(Punct::BracketOpen))?;
     let (length, rest) = opt_cond(alloc, names, left, rest)?;
     let (_close, rest) = expect(rest, Sign::Mark(Punct::BracketClose))?;
-    Ok((Suffix::Array(place, length), rest))
+    Ok((Suffix::Array(place, opened(length)), rest))
 }
 
 /// [ cond ]
@@ -157,7 +158,7 @@ fn opt_cond<'a>(
     names: &[Text],
     left: usize,
     ts: &'a [Token],
-) -> Read<'a, Option<Expr>>
+) -> Read<'a, Option<Boxed<Expr>>>
     ensures { Gives (λ x. (x.0, x.1.now)) result (spec.read_opt_cond names.now (spec.levels names.now left) ts.now) }
 {
     if begins_expr(names, ts) {

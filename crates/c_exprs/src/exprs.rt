@@ -3,7 +3,6 @@
 ghost use Rattle.std.specs.Prelude.{◌≤◌};
 ghost use Rattle.c_grammar.specs.Tokens.{Gives};
 ghost use Rattle.c_grammar.specs.Reading as spec;
-ghost use Rattle.c_exprs.specs.Parts as parts_of;
 
 use crate::types::typename;
 use c_ast::{Access, Expr, Link};
@@ -18,17 +17,20 @@ use c_grammar::tokens::{
 };
 use c_lex::token::{Keyword, Punct, Token};
 use c_nodes::levels::deep_if;
-use c_nodes::nodes::{
-    Chosen, accessed, alone, assignment, choice, commas, conversion, group, joined, prefix, size,
-    step,
-};
+use c_nodes::nodes::{accessed, alone, commas, joined};
 use cm_base::{List, Place, Text};
+use sqlite_items::Boxed;
 use std::alloc::Global;
 
 /// expr = assign { "," assign }
 #[cycle(syntax)]
 #[tactic(auto, unfolding(c_grammar::specs::Reading::read_expr))]
-pub fn expr<'a>(alloc: Global, names: &[Text], left: usize, ts: &'a [Token]) -> Read<'a, Expr>
+pub fn expr<'a>(
+    alloc: Global,
+    names: &[Text],
+    left: usize,
+    ts: &'a [Token],
+) -> Read<'a, Boxed<Expr>>
     ensures { Gives (λ x. (x.0, x.1.now)) result (spec.read_expr names.now (spec.levels names.now left) ts.now) }
 {
     let (first, rest) = assign(alloc, names, left, ts)?;
@@ -51,7 +53,7 @@ fn expr_item<'a>(
     let mut all = so_far;
     let (_comma, rest) = expect(ts, Sign::Mark(Punct::Comma))?;
     let (part, rest) = assign(alloc, names, left, rest)?;
-    all.push(part)?;
+    all.push(part.into_inner())?;
     Ok((all, rest))
 }
 
@@ -83,7 +85,12 @@ fn more_exprs<'a>(
 /// assign = cond [ aop assign ]
 #[cycle(syntax)]
 #[tactic(auto, using(c_nodes::proofs::LevelLaws::assign_rules), unfolding(c_grammar::specs::Reading::read_assign))]
-pub fn assign<'a>(alloc: Global, names: &[Text], left: usize, ts: &'a [Token]) -> Read<'a, Expr>
+pub fn assign<'a>(
+    alloc: Global,
+    names: &[Text],
+    left: usize,
+    ts: &'a [Token],
+) -> Read<'a, Boxed<Expr>>
     ensures { Gives (λ x. (x.0, x.1.now)) result ((spec.levels names.now left).assign ts.now) }
 {
     if left == 0 {
@@ -104,20 +111,26 @@ fn assigned<'a>(
     alloc: Global,
     names: &[Text],
     left: usize,
-    to: Expr,
+    to: Boxed<Expr>,
     ts: &'a [Token],
-) -> Read<'a, Expr>
+) -> Read<'a, Boxed<Expr>>
     ensures { Gives (λ x. (x.0, x.1.now)) result (spec.read_assigned names.now (spec.levels names.now left) to ts.now) }
 {
     let (op, rest) = take_assign_op(ts)?;
     let (value, rest) = assign(alloc, names, left, rest)?;
-    Ok((assignment(alloc, op, to, value)?, rest))
+    let whole = Expr::Assign(op.0, op.1, to, value);
+    Ok((Boxed::new(alloc, whole)?, rest))
 }
 
 /// cond = binary [ "?" expr ":" cond ]
 #[cycle(syntax)]
 #[tactic(auto, using(c_nodes::proofs::LevelLaws::cond_rules), unfolding(c_grammar::specs::Reading::read_cond))]
-pub fn cond<'a>(alloc: Global, names: &[Text], left: usize, ts: &'a [Token]) -> Read<'a, Expr>
+pub fn cond<'a>(
+    alloc: Global,
+    names: &[Text],
+    left: usize,
+    ts: &'a [Token],
+) -> Read<'a, Boxed<Expr>>
     ensures { Gives (λ x. (x.0, x.1.now)) result ((spec.levels names.now left).cond ts.now) }
 {
     if left == 0 {
@@ -138,31 +151,17 @@ fn chosen<'a>(
     alloc: Global,
     names: &[Text],
     left: usize,
-    test: Expr,
+    test: Boxed<Expr>,
     ts: &'a [Token],
-) -> Read<'a, Expr>
+) -> Read<'a, Boxed<Expr>>
     ensures { Gives (λ x. (x.0, x.1.now)) result (spec.read_chosen names.now (spec.levels names.now left) test ts.now) }
 {
     let (place, rest) = expect(ts, Sign::Mark(Punct::Question))?;
     let (holds, rest) = expr(alloc, names, left, rest)?;
-    let head = Chosen { place, test, holds };
-    chosen_end(alloc, names, left, head, rest)
-}
-
-/// ":" cond, after the rest of its choice.
-#[cycle(syntax)]
-fn chosen_end<'a>(
-    alloc: Global,
-    names: &[Text],
-    left: usize,
-    head: Chosen,
-    ts: &'a [Token],
-) -> Read<'a, Expr>
-    ensures { Gives (λ x. (x.0, x.1.now)) result (parts_of.read_chosen_end (spec.levels names.now left) head.place head.test head.holds ts.now) }
-{
-    let (_colon, rest) = expect(ts, Sign::Mark(Punct::Colon))?;
+    let (_colon, rest) = expect(rest, Sign::Mark(Punct::Colon))?;
     let (fails, rest) = cond(alloc, names, left, rest)?;
-    Ok((choice(alloc, head, fails)?, rest))
+    let whole = Expr::Choice(place, test, holds, fails);
+    Ok((Boxed::new(alloc, whole)?, rest))
 }
 
 /// An operator of this level and its operand.
@@ -185,7 +184,7 @@ fn op_item<'a>(
     all.push(Link {
         place: op.0,
         op: op.1,
-        operand,
+        operand: operand.into_inner(),
     })?;
     Ok((all, rest))
 }
@@ -227,7 +226,7 @@ fn binary<'a>(
     left: usize,
     level: usize,
     ts: &'a [Token],
-) -> Read<'a, Expr>
+) -> Read<'a, Boxed<Expr>>
     requires { level ≤ 10 }
     ensures { Gives (λ x. (x.0, x.1.now)) result (spec.read_binary (spec.levels names.now left) level ts.now) }
 {
@@ -243,7 +242,7 @@ fn binary<'a>(
 /// cast = "(" typename ")" cast | unary
 #[cycle(syntax)]
 #[tactic(auto, using(c_nodes::proofs::LevelLaws::cast_rules), unfolding(c_grammar::specs::Reading::read_cast))]
-fn cast<'a>(alloc: Global, names: &[Text], left: usize, ts: &'a [Token]) -> Read<'a, Expr>
+fn cast<'a>(alloc: Global, names: &[Text], left: usize, ts: &'a [Token]) -> Read<'a, Boxed<Expr>>
     ensures { Gives (λ x. (x.0, x.1.now)) result ((spec.levels names.now left).cast ts.now) }
 {
     if left == 0 {
@@ -259,21 +258,26 @@ fn cast<'a>(alloc: Global, names: &[Text], left: usize, ts: &'a [Token]) -> Read
 /// "(" typename ")" cast
 #[cycle(syntax)]
 #[tactic(auto, unfolding(c_grammar::specs::Reading::read_converted))]
-fn converted<'a>(alloc: Global, names: &[Text], left: usize, ts: &'a [Token]) -> Read<'a, Expr>
+fn converted<'a>(
+    alloc: Global,
+    names: &[Text],
+    left: usize,
+    ts: &'a [Token],
+) -> Read<'a, Boxed<Expr>>
     ensures { Gives (λ x. (x.0, x.1.now)) result (spec.read_converted names.now (spec.levels names.now left) ts.now) }
 {
     let (place, rest) = expect(ts, Sign::Mark(Punct::ParenOpen))?;
     let (to, rest) = typename(alloc, names, left, rest)?;
     let (_close, rest) = expect(rest, Sign::Mark(Punct::ParenClose))?;
     let (value, rest) = cast(alloc, names, left, rest)?;
-    Ok((conversion(alloc, place, to, value)?, rest))
+    Ok((Boxed::new(alloc, Expr::Cast(place, to, value))?, rest))
 }
 
 /// unary = ( "++" | "--" ) unary | ( "&" | "*" | "+" | "-" | "~" | "!" ) cast
 /// | "sizeof" ( unary | "(" typename ")" ) | postfix
 #[cycle(syntax)]
 #[tactic(auto, unfolding(c_grammar::specs::Reading::read_unary))]
-fn unary<'a>(alloc: Global, names: &[Text], left: usize, ts: &'a [Token]) -> Read<'a, Expr>
+fn unary<'a>(alloc: Global, names: &[Text], left: usize, ts: &'a [Token]) -> Read<'a, Boxed<Expr>>
     ensures { Gives (λ x. (x.0, x.1.now)) result (spec.read_unary names.now (spec.levels names.now left) ts.now) }
 {
     if begins_step(ts) {
@@ -288,18 +292,23 @@ fn unary<'a>(alloc: Global, names: &[Text], left: usize, ts: &'a [Token]) -> Rea
 /// ( "&" | "*" | "+" | "-" | "~" | "!" ) cast
 #[cycle(syntax)]
 #[tactic(auto, unfolding(c_grammar::specs::Reading::read_prefixed))]
-fn prefixed<'a>(alloc: Global, names: &[Text], left: usize, ts: &'a [Token]) -> Read<'a, Expr>
+fn prefixed<'a>(
+    alloc: Global,
+    names: &[Text],
+    left: usize,
+    ts: &'a [Token],
+) -> Read<'a, Boxed<Expr>>
     ensures { Gives (λ x. (x.0, x.1.now)) result (spec.read_prefixed names.now (spec.levels names.now left) ts.now) }
 {
     let (op, rest) = take_un_op(ts)?;
     let (operand, rest) = cast(alloc, names, left, rest)?;
-    Ok((prefix(alloc, op, operand)?, rest))
+    Ok((Boxed::new(alloc, Expr::Unary(op.0, op.1, operand))?, rest))
 }
 
 /// ( "++" | "--" ) unary | "sizeof" ( unary | "(" typename ")" )
 #[cycle(syntax)]
 #[tactic(auto, using(c_nodes::proofs::LevelLaws::stepped_rules), unfolding(c_grammar::specs::Reading::read_stepped))]
-fn stepped<'a>(alloc: Global, names: &[Text], left: usize, ts: &'a [Token]) -> Read<'a, Expr>
+fn stepped<'a>(alloc: Global, names: &[Text], left: usize, ts: &'a [Token]) -> Read<'a, Boxed<Expr>>
     ensures { Gives (λ x. (x.0, x.1.now)) result ((spec.levels names.now left).stepped ts.now) }
 {
     if left == 0 {
@@ -315,18 +324,23 @@ fn stepped<'a>(alloc: Global, names: &[Text], left: usize, ts: &'a [Token]) -> R
 /// ( "++" | "--" ) unary
 #[cycle(syntax)]
 #[tactic(auto, unfolding(c_grammar::specs::Reading::read_step_before))]
-fn step_before<'a>(alloc: Global, names: &[Text], left: usize, ts: &'a [Token]) -> Read<'a, Expr>
+fn step_before<'a>(
+    alloc: Global,
+    names: &[Text],
+    left: usize,
+    ts: &'a [Token],
+) -> Read<'a, Boxed<Expr>>
     ensures { Gives (λ x. (x.0, x.1.now)) result (spec.read_step_before names.now (spec.levels names.now left) ts.now) }
 {
     let (op, rest) = take_step_op(ts)?;
     let (operand, rest) = unary(alloc, names, left, rest)?;
-    Ok((step(alloc, op, operand)?, rest))
+    Ok((Boxed::new(alloc, Expr::Step(op.0, op.1, operand))?, rest))
 }
 
 /// "sizeof" ( unary | "(" typename ")" )
 #[cycle(syntax)]
 #[tactic(auto, unfolding(c_grammar::specs::Reading::read_size_of))]
-fn size_of<'a>(alloc: Global, names: &[Text], left: usize, ts: &'a [Token]) -> Read<'a, Expr>
+fn size_of<'a>(alloc: Global, names: &[Text], left: usize, ts: &'a [Token]) -> Read<'a, Boxed<Expr>>
     ensures { Gives (λ x. (x.0, x.1.now)) result (spec.read_size_of names.now (spec.levels names.now left) ts.now) }
 {
     let (place, rest) = expect(ts, Sign::Word(Keyword::Sizeof))?;
@@ -345,13 +359,13 @@ fn sizeof_type<'a>(
     left: usize,
     place: Place,
     ts: &'a [Token],
-) -> Read<'a, Expr>
+) -> Read<'a, Boxed<Expr>>
     ensures { Gives (λ x. (x.0, x.1.now)) result (spec.read_sizeof_type names.now (spec.levels names.now left) place ts.now) }
 {
     let (_open, rest) = expect(ts, Sign::Mark(Punct::ParenOpen))?;
     let (of, rest) = typename(alloc, names, left, rest)?;
     let (_close, rest) = expect(rest, Sign::Mark(Punct::ParenClose))?;
-    Ok((Expr::SizeofType(place, of), rest))
+    Ok((Boxed::new(alloc, Expr::SizeofType(place, of))?, rest))
 }
 
 /// unary, after `sizeof`.
@@ -363,17 +377,17 @@ fn sizeof_expr<'a>(
     left: usize,
     place: Place,
     ts: &'a [Token],
-) -> Read<'a, Expr>
+) -> Read<'a, Boxed<Expr>>
     ensures { Gives (λ x. (x.0, x.1.now)) result (spec.read_sizeof_expr names.now (spec.levels names.now left) place ts.now) }
 {
     let (of, rest) = unary(alloc, names, left, ts)?;
-    Ok((size(alloc, place, of)?, rest))
+    Ok((Boxed::new(alloc, Expr::SizeofExpr(place, of))?, rest))
 }
 
 /// postfix = primary { "[" expr "]" | "(" [ assign { "," assign } ] ")" | "." NAME | "->" NAME | "++" | "--" }
 #[cycle(syntax)]
 #[tactic(auto, unfolding(c_grammar::specs::Reading::read_postfix))]
-fn postfix<'a>(alloc: Global, names: &[Text], left: usize, ts: &'a [Token]) -> Read<'a, Expr>
+fn postfix<'a>(alloc: Global, names: &[Text], left: usize, ts: &'a [Token]) -> Read<'a, Boxed<Expr>>
     ensures { Gives (λ x. (x.0, x.1.now)) result (spec.read_postfix names.now (spec.levels names.now left) ts.now) }
 {
     let (first, rest) = primary(alloc, names, left, ts)?;
@@ -459,7 +473,7 @@ fn indexed<'a>(alloc: Global, names: &[Text], left: usize, ts: &'a [Token]) -> R
     let (place, rest) = expect(ts, Sign::Mark(Punct::BracketOpen))?;
     let (at, rest) = expr(alloc, names, left, rest)?;
     let (_close, rest) = expect(rest, Sign::Mark(Punct::BracketClose))?;
-    Ok((Access::Index(place, at), rest))
+    Ok((Access::Index(place, at.into_inner()), rest))
 }
 
 /// "(" [ assign { "," assign } ] ")"
@@ -498,28 +512,30 @@ fn some_args<'a>(
     ensures { Gives (λ x. (x.0, x.1.now)) result (spec.read_some_args names.now (spec.levels names.now left) ts.now) }
 {
     let (first, rest) = assign(alloc, names, left, ts)?;
-    more_exprs(alloc, names, left, alone(alloc, first)?, rest)
+    more_exprs(alloc, names, left, alone(alloc, first.into_inner())?, rest)
 }
 
 /// primary = NAME | NUMBER | CHAR | STRING | "(" expr ")"
 #[cycle(syntax)]
 #[tactic(auto, unfolding(c_grammar::specs::Reading::read_primary))]
-fn primary<'a>(alloc: Global, names: &[Text], left: usize, ts: &'a [Token]) -> Read<'a, Expr>
+fn primary<'a>(alloc: Global, names: &[Text], left: usize, ts: &'a [Token]) -> Read<'a, Boxed<Expr>>
     ensures { Gives (λ x. (x.0, x.1.now)) result (spec.read_primary names.now (spec.levels names.now left) ts.now) }
 {
     if next_is_name(names, ts) {
         let (name, rest) = take_name(alloc, names, ts)?;
-        return Ok((Expr::Name(name), rest));
+        return Ok((Boxed::new(alloc, Expr::Name(name))?, rest));
     }
     if has_number(ts) {
-        return take_number(ts);
+        let (number, rest) = take_number(ts)?;
+        return Ok((Boxed::new(alloc, number)?, rest));
     }
     if has_char(ts) {
-        return take_char(ts);
+        let (char, rest) = take_char(ts)?;
+        return Ok((Boxed::new(alloc, char)?, rest));
     }
     if has_string(ts) {
         let (text, rest) = take_string(alloc, ts)?;
-        return Ok((Expr::Str(text.0, text.1), rest));
+        return Ok((Boxed::new(alloc, Expr::Str(text.0, text.1))?, rest));
     }
     grouped(alloc, names, left, ts)
 }
@@ -527,11 +543,11 @@ fn primary<'a>(alloc: Global, names: &[Text], left: usize, ts: &'a [Token]) -> R
 /// "(" expr ")"
 #[cycle(syntax)]
 #[tactic(auto, unfolding(c_grammar::specs::Reading::read_grouped))]
-fn grouped<'a>(alloc: Global, names: &[Text], left: usize, ts: &'a [Token]) -> Read<'a, Expr>
+fn grouped<'a>(alloc: Global, names: &[Text], left: usize, ts: &'a [Token]) -> Read<'a, Boxed<Expr>>
     ensures { Gives (λ x. (x.0, x.1.now)) result (spec.read_grouped names.now (spec.levels names.now left) ts.now) }
 {
     let (place, rest) = expect(ts, Sign::Mark(Punct::ParenOpen))?;
     let (inner, rest) = expr(alloc, names, left, rest)?;
     let (_close, rest) = expect(rest, Sign::Mark(Punct::ParenClose))?;
-    Ok((group(alloc, place, inner)?, rest))
+    Ok((Boxed::new(alloc, Expr::Group(place, inner))?, rest))
 }

@@ -406,7 +406,7 @@ fn enumr_value<'a>(
     Ok((
         Enumerator {
             name,
-            value: Some(value),
+            value: Some(value.into_inner()),
         },
         rest,
     ))

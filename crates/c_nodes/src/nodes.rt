@@ -1,16 +1,12 @@
 //! Trees, each made of its parts.
 
 ghost use Rattle.std.specs.Prelude.{◌≡◌, [], ◌∷◌, IfOk};
-ghost use Rattle.c_ast.specs.declared.expr.Expr.TheVariants as exprs;
 ghost use Rattle.c_ast.specs.declared.expr.Abstract.TheVariants as abstracts;
 ghost use Rattle.c_grammar.specs.Tokens.{named};
 ghost use Rattle.c_grammar.specs.Grammar as grammar;
 ghost use Rattle.c_grammar.specs.Reading as spec;
 
-use c_ast::{
-    Abstract, Access, AssignOp, Declarator, Expr, Link, Name, Param, Spec, Star, StepOp, Suffix,
-    TypeName, UnOp,
-};
+use c_ast::{Abstract, Access, Declarator, Expr, Link, Name, Param, Spec, Star, Suffix};
 use c_grammar::either::Either;
 use cm_base::{List, NoMemory, Place};
 use sqlite_items::Boxed;
@@ -37,113 +33,57 @@ pub fn no_name(alloc: Global, place: Place) -> Name
 
 /// The expressions joined by `,`, or the first one where it stands alone.
 #[tactic(auto, using(crate::proofs::Chains::chains))]
-pub fn commas(alloc: Global, first: Expr, more: List<Expr>) -> Result<Expr, AllocError>
+pub fn commas(
+    alloc: Global,
+    first: Boxed<Expr>,
+    more: List<Expr>,
+) -> Result<Boxed<Expr>, AllocError>
     ensures { IfOk result (λ e. e ≡ grammar.commas first more) }
 {
     if more.is_empty() {
         return Ok(first);
     }
-    Ok(Expr::Comma(Boxed::new(alloc, first)?, more))
+    Boxed::new(alloc, Expr::Comma(first, more))
 }
 
 /// An expression and what is done to it, or the expression alone.
 #[tactic(auto, using(crate::proofs::Chains::chains))]
-pub fn accessed(alloc: Global, first: Expr, more: List<Access>) -> Result<Expr, AllocError>
+pub fn accessed(
+    alloc: Global,
+    first: Boxed<Expr>,
+    more: List<Access>,
+) -> Result<Boxed<Expr>, AllocError>
     ensures { IfOk result (λ e. e ≡ grammar.accessed first more) }
 {
     if more.is_empty() {
         return Ok(first);
     }
-    Ok(Expr::Postfix(Boxed::new(alloc, first)?, more))
+    Boxed::new(alloc, Expr::Postfix(first, more))
 }
 
 /// The first operand and those joined to it, or the first one alone.
 #[tactic(auto, using(crate::proofs::Chains::chains))]
-pub fn joined(alloc: Global, first: Expr, more: List<Link>) -> Result<Expr, AllocError>
+pub fn joined(
+    alloc: Global,
+    first: Boxed<Expr>,
+    more: List<Link>,
+) -> Result<Boxed<Expr>, AllocError>
     ensures { IfOk result (λ e. e ≡ grammar.joined first more) }
 {
     if more.is_empty() {
         return Ok(first);
     }
-    Ok(Expr::Binary(Boxed::new(alloc, first)?, more))
+    Boxed::new(alloc, Expr::Binary(first, more))
 }
 
-/// An assignment by its operator.
-pub fn assignment(
-    alloc: Global,
-    op: (Place, AssignOp),
-    to: Expr,
-    value: Expr,
-) -> Result<Expr, AllocError>
-    ensures { IfOk result (λ e. e ≡ exprs.Assign op.0 op.1 to value) }
+/// An expression that may be there, without its box.
+pub fn opened(found: Option<Boxed<Expr>>) -> Option<Expr>
+    ensures { result ≡ found }
 {
-    Ok(Expr::Assign(
-        op.0,
-        op.1,
-        Boxed::new(alloc, to)?,
-        Boxed::new(alloc, value)?,
-    ))
-}
-
-/// A choice without what it is where its test fails.
-#[derive(Drop)]
-pub struct Chosen {
-    pub place: Place,
-    pub test: Expr,
-    pub holds: Expr,
-}
-
-/// `test ? holds : fails`.
-pub fn choice(alloc: Global, head: Chosen, fails: Expr) -> Result<Expr, AllocError>
-    ensures { IfOk result (λ e. e ≡ exprs.Choice head.place head.test head.holds fails) }
-{
-    let Chosen { place, test, holds } = head;
-    Ok(Expr::Choice(
-        place,
-        Boxed::new(alloc, test)?,
-        Boxed::new(alloc, holds)?,
-        Boxed::new(alloc, fails)?,
-    ))
-}
-
-/// A cast to a type.
-pub fn conversion(
-    alloc: Global,
-    place: Place,
-    to: TypeName,
-    value: Expr,
-) -> Result<Expr, AllocError>
-    ensures { IfOk result (λ e. e ≡ exprs.Cast place to value) }
-{
-    Ok(Expr::Cast(place, to, Boxed::new(alloc, value)?))
-}
-
-/// An operand after `&`, `*`, `+`, `-`, `~` or `!`.
-pub fn prefix(alloc: Global, op: (Place, UnOp), operand: Expr) -> Result<Expr, AllocError>
-    ensures { IfOk result (λ e. e ≡ exprs.Unary op.0 op.1 operand) }
-{
-    Ok(Expr::Unary(op.0, op.1, Boxed::new(alloc, operand)?))
-}
-
-/// An operand after `++` or `--`.
-pub fn step(alloc: Global, op: (Place, StepOp), operand: Expr) -> Result<Expr, AllocError>
-    ensures { IfOk result (λ e. e ≡ exprs.Step op.0 op.1 operand) }
-{
-    Ok(Expr::Step(op.0, op.1, Boxed::new(alloc, operand)?))
-}
-
-/// `sizeof` of an expression.
-pub fn size(alloc: Global, place: Place, operand: Expr) -> Result<Expr, AllocError>
-    ensures { IfOk result (λ e. e ≡ exprs.SizeofExpr place operand) }
-{
-    Ok(Expr::SizeofExpr(place, Boxed::new(alloc, operand)?))
-}
-
-/// An expression in parentheses.
-pub fn group(alloc: Global, place: Place, inner: Expr) -> Result<Expr, AllocError>
-    ensures { IfOk result (λ e. e ≡ exprs.Group place inner) }
-{
-    Ok(Expr::Group(place, Boxed::new(alloc, inner)?))
+    match found {
+        Some(expr) => Some(expr.into_inner()),
+        None => None,
+    }
 }
 
 /// The stars, the declarator in parentheses and the suffixes as an abstract declarator.

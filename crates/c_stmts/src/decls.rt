@@ -30,7 +30,7 @@ pub fn initial<'a>(alloc: Global, names: &[Text], left: usize, ts: &'a [Token]) 
         return braced_initial(alloc, names, left, ts);
     }
     let (value, rest) = assign(alloc, names, left, ts)?;
-    Ok((Initial::Assign(value), rest))
+    Ok((Initial::Assign(value.into_inner()), rest))
 }
 
 /// "{" initial { "," initial } [ "," ] "}"

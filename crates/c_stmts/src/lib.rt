@@ -3,5 +3,4 @@
 #![tactic(auto)]
 
 pub mod decls;
-mod nodes;
 pub mod stmts;

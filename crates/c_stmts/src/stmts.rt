@@ -5,14 +5,15 @@ ghost use Rattle.c_grammar.specs.Reading as spec;
 ghost use Rattle.c_stmts.specs.Parts as parts_of;
 
 use crate::decls::decl;
-use crate::nodes::{Half, Turns, do_loop, for_loop, half_of, while_loop, with_else, without_else};
 use c_ast::{Block, Expr, First, Item, Label, Part, Stmt};
 use c_exprs::exprs::{cond, expr};
 use c_grammar::begins::{begins_expr, begins_label, begins_spec, begins_stmt};
 use c_grammar::tokens::{Read, Sign, expect, next_is};
 use c_lex::token::{Keyword, Punct, Token};
 use c_nodes::levels::{deep_if, in_braces};
+use c_nodes::nodes::opened;
 use cm_base::{List, Place, Text};
+use sqlite_items::Boxed;
 use std::alloc::Global;
 
 /// [ expr ]
@@ -22,7 +23,7 @@ fn opt_expr<'a>(
     names: &[Text],
     left: usize,
     ts: &'a [Token],
-) -> Read<'a, Option<Expr>>
+) -> Read<'a, Option<Boxed<Expr>>>
     ensures { Gives (λ x. (x.0, x.1.now)) result (spec.read_opt_expr names.now (spec.levels names.now left) ts.now) }
 {
     if begins_expr(names, ts) {
@@ -34,16 +35,16 @@ fn opt_expr<'a>(
 
 /// decl | [ expr ] ";"
 #[tactic(auto, unfolding(c_grammar::specs::Reading::read_first))]
-fn first<'a>(alloc: Global, names: &[Text], left: usize, ts: &'a [Token]) -> Read<'a, First>
+fn first<'a>(alloc: Global, names: &[Text], left: usize, ts: &'a [Token]) -> Read<'a, Boxed<First>>
     ensures { Gives (λ x. (x.0, x.1.now)) result (spec.read_first names.now (spec.levels names.now left) ts.now) }
 {
     if begins_spec(names, ts) {
         let (found, rest) = decl(alloc, names, left, ts)?;
-        return Ok((First::Decl(found), rest));
+        return Ok((Boxed::new(alloc, First::Decl(found))?, rest));
     }
     let (found, rest) = opt_expr(alloc, names, left, ts)?;
     let (_end, rest) = expect(rest, Sign::Mark(Punct::Semicolon))?;
-    Ok((First::Expr(found), rest))
+    Ok((Boxed::new(alloc, First::Expr(opened(found)))?, rest))
 }
 
 /// "case" cond ":"
@@ -54,7 +55,7 @@ fn case_label<'a>(alloc: Global, names: &[Text], left: usize, ts: &'a [Token]) -
     let (place, rest) = expect(ts, Sign::Word(Keyword::Case))?;
     let (value, rest) = cond(alloc, names, left, rest)?;
     let (_colon, rest) = expect(rest, Sign::Mark(Punct::Colon))?;
-    Ok((Label::Case(place, value), rest))
+    Ok((Label::Case(place, value.into_inner()), rest))
 }
 
 /// label = "case" cond ":" | "default" ":"
@@ -136,7 +137,7 @@ fn item<'a>(alloc: Global, names: &[Text], left: usize, ts: &'a [Token]) -> Read
         return Ok((Item::Decl(found), rest));
     }
     let (found, rest) = stmt(alloc, names, left, ts)?;
-    Ok((Item::Stmt(found), rest))
+    Ok((Item::Stmt(found.into_inner()), rest))
 }
 
 /// stmt = block | ";" | expr ";" | "return" [ expr ] ";" | "break" ";" | "continue" ";"
@@ -146,7 +147,7 @@ fn item<'a>(alloc: Global, names: &[Text], left: usize, ts: &'a [Token]) -> Read
 /// | "switch" "(" expr ")" "{" { label | decl | stmt } "}"
 #[cycle(stmts)]
 #[tactic(auto, using(c_nodes::proofs::LevelLaws::stmts_rules))]
-fn stmt<'a>(alloc: Global, names: &[Text], left: usize, ts: &'a [Token]) -> Read<'a, Stmt>
+fn stmt<'a>(alloc: Global, names: &[Text], left: usize, ts: &'a [Token]) -> Read<'a, Boxed<Stmt>>
     ensures { Gives (λ x. (x.0, x.1.now)) result ((spec.levels names.now left).stmts ts.now) }
 {
     if left == 0 {
@@ -159,25 +160,30 @@ fn stmt<'a>(alloc: Global, names: &[Text], left: usize, ts: &'a [Token]) -> Read
 /// The alternatives of stmt.
 #[cycle(stmts)]
 #[tactic(auto, unfolding(c_grammar::specs::Reading::read_stmt))]
-fn stmt_below<'a>(alloc: Global, names: &[Text], left: usize, ts: &'a [Token]) -> Read<'a, Stmt>
+fn stmt_below<'a>(
+    alloc: Global,
+    names: &[Text],
+    left: usize,
+    ts: &'a [Token],
+) -> Read<'a, Boxed<Stmt>>
     ensures { Gives (λ x. (x.0, x.1.now)) result (spec.read_stmt names.now (spec.levels names.now left) ts.now) }
 {
     if next_is(ts, Sign::Mark(Punct::BraceOpen)) {
         let (found, rest) = block(alloc, names, left, ts)?;
-        return Ok((Stmt::Block(found), rest));
+        return Ok((Boxed::new(alloc, Stmt::Block(found))?, rest));
     }
     if next_is(ts, Sign::Mark(Punct::Semicolon)) {
         let (place, rest) = expect(ts, Sign::Mark(Punct::Semicolon))?;
-        return Ok((Stmt::Empty(place), rest));
+        return Ok((Boxed::new(alloc, Stmt::Empty(place))?, rest));
     }
     if next_is(ts, Sign::Word(Keyword::Return)) {
         return return_stmt(alloc, names, left, ts);
     }
     if next_is(ts, Sign::Word(Keyword::Break)) {
-        return break_stmt(ts);
+        return break_stmt(alloc, ts);
     }
     if next_is(ts, Sign::Word(Keyword::Continue)) {
-        return continue_stmt(ts);
+        return continue_stmt(alloc, ts);
     }
     if next_is(ts, Sign::Word(Keyword::If)) {
         return if_stmt(alloc, names, left, ts);
@@ -198,47 +204,58 @@ fn stmt_below<'a>(alloc: Global, names: &[Text], left: usize, ts: &'a [Token]) -
 }
 
 /// "break" ";"
-fn break_stmt<'a>(ts: &'a [Token]) -> Read<'a, Stmt>
+fn break_stmt<'a>(alloc: Global, ts: &'a [Token]) -> Read<'a, Boxed<Stmt>>
     ensures { Gives (λ x. (x.0, x.1.now)) result (parts_of.read_break ts.now) }
 {
     let (place, rest) = expect(ts, Sign::Word(Keyword::Break))?;
     let (_end, rest) = expect(rest, Sign::Mark(Punct::Semicolon))?;
-    Ok((Stmt::Break(place), rest))
+    Ok((Boxed::new(alloc, Stmt::Break(place))?, rest))
 }
 
 /// "continue" ";"
-fn continue_stmt<'a>(ts: &'a [Token]) -> Read<'a, Stmt>
+fn continue_stmt<'a>(alloc: Global, ts: &'a [Token]) -> Read<'a, Boxed<Stmt>>
     ensures { Gives (λ x. (x.0, x.1.now)) result (parts_of.read_continue ts.now) }
 {
     let (place, rest) = expect(ts, Sign::Word(Keyword::Continue))?;
     let (_end, rest) = expect(rest, Sign::Mark(Punct::Semicolon))?;
-    Ok((Stmt::Continue(place), rest))
+    Ok((Boxed::new(alloc, Stmt::Continue(place))?, rest))
 }
 
 /// expr ";"
-fn expr_stmt<'a>(alloc: Global, names: &[Text], left: usize, ts: &'a [Token]) -> Read<'a, Stmt>
+fn expr_stmt<'a>(
+    alloc: Global,
+    names: &[Text],
+    left: usize,
+    ts: &'a [Token],
+) -> Read<'a, Boxed<Stmt>>
     ensures { Gives (λ x. (x.0, x.1.now)) result (parts_of.read_expr_stmt names.now (spec.levels names.now left) ts.now) }
 {
     let (found, rest) = expr(alloc, names, left, ts)?;
     let (_end, rest) = expect(rest, Sign::Mark(Punct::Semicolon))?;
-    Ok((Stmt::Expr(found), rest))
+    Ok((Boxed::new(alloc, Stmt::Expr(found.into_inner()))?, rest))
 }
 
 /// "return" [ expr ] ";"
 #[tactic(auto, unfolding(c_grammar::specs::Reading::read_return_stmt))]
-fn return_stmt<'a>(alloc: Global, names: &[Text], left: usize, ts: &'a [Token]) -> Read<'a, Stmt>
+fn return_stmt<'a>(
+    alloc: Global,
+    names: &[Text],
+    left: usize,
+    ts: &'a [Token],
+) -> Read<'a, Boxed<Stmt>>
     ensures { Gives (λ x. (x.0, x.1.now)) result (spec.read_return_stmt names.now (spec.levels names.now left) ts.now) }
 {
     let (place, rest) = expect(ts, Sign::Word(Keyword::Return))?;
     let (value, rest) = opt_expr(alloc, names, left, rest)?;
     let (_end, rest) = expect(rest, Sign::Mark(Punct::Semicolon))?;
-    Ok((Stmt::Return(place, value), rest))
+    let whole = Stmt::Return(place, opened(value));
+    Ok((Boxed::new(alloc, whole)?, rest))
 }
 
 /// "if" "(" expr ")" stmt [ "else" stmt ]
 #[cycle(stmts)]
 #[tactic(auto, unfolding(c_grammar::specs::Reading::read_if_stmt))]
-fn if_stmt<'a>(alloc: Global, names: &[Text], left: usize, ts: &'a [Token]) -> Read<'a, Stmt>
+fn if_stmt<'a>(alloc: Global, names: &[Text], left: usize, ts: &'a [Token]) -> Read<'a, Boxed<Stmt>>
     ensures { Gives (λ x. (x.0, x.1.now)) result (spec.read_if_stmt names.now (spec.levels names.now left) ts.now) }
 {
     let (place, rest) = expect(ts, Sign::Word(Keyword::If))?;
@@ -246,25 +263,11 @@ fn if_stmt<'a>(alloc: Global, names: &[Text], left: usize, ts: &'a [Token]) -> R
     let (test, rest) = expr(alloc, names, left, rest)?;
     let (_close, rest) = expect(rest, Sign::Mark(Punct::ParenClose))?;
     let (holds, rest) = stmt(alloc, names, left, rest)?;
-    let half = half_of(alloc, place, test, holds)?;
-    opt_else(alloc, names, left, half, rest)
-}
-
-/// [ "else" stmt ], after the rest of its `if`.
-#[cycle(stmts)]
-fn opt_else<'a>(
-    alloc: Global,
-    names: &[Text],
-    left: usize,
-    half: Half,
-    ts: &'a [Token],
-) -> Read<'a, Stmt>
-    ensures { Gives (λ x. (x.0, x.1.now)) result (parts_of.read_opt_else names.now (spec.levels names.now left) half.place half.test half.holds ts.now) }
-{
-    if next_is(ts, Sign::Word(Keyword::Else)) {
-        return if_else(alloc, names, left, half, ts);
+    if next_is(rest, Sign::Word(Keyword::Else)) {
+        return if_else(alloc, names, left, place, test, holds, rest);
     }
-    Ok((without_else(half), ts))
+    let whole = Stmt::If(place, test.into_inner(), holds, None);
+    Ok((Boxed::new(alloc, whole)?, rest))
 }
 
 /// "else" stmt, after the rest of its `if`.
@@ -274,20 +277,28 @@ fn if_else<'a>(
     alloc: Global,
     names: &[Text],
     left: usize,
-    half: Half,
+    place: Place,
+    test: Boxed<Expr>,
+    holds: Boxed<Stmt>,
     ts: &'a [Token],
-) -> Read<'a, Stmt>
-    ensures { Gives (λ x. (x.0, x.1.now)) result (spec.read_if_else names.now (spec.levels names.now left) half.place half.test half.holds ts.now) }
+) -> Read<'a, Boxed<Stmt>>
+    ensures { Gives (λ x. (x.0, x.1.now)) result (spec.read_if_else names.now (spec.levels names.now left) place test holds ts.now) }
 {
     let (_else, rest) = expect(ts, Sign::Word(Keyword::Else))?;
-    let (otherwise, rest) = stmt(alloc, names, left, rest)?;
-    Ok((with_else(alloc, half, otherwise)?, rest))
+    let (fails, rest) = stmt(alloc, names, left, rest)?;
+    let whole = Stmt::If(place, test.into_inner(), holds, Some(fails));
+    Ok((Boxed::new(alloc, whole)?, rest))
 }
 
 /// "while" "(" expr ")" stmt
 #[cycle(stmts)]
 #[tactic(auto, unfolding(c_grammar::specs::Reading::read_while_stmt))]
-fn while_stmt<'a>(alloc: Global, names: &[Text], left: usize, ts: &'a [Token]) -> Read<'a, Stmt>
+fn while_stmt<'a>(
+    alloc: Global,
+    names: &[Text],
+    left: usize,
+    ts: &'a [Token],
+) -> Read<'a, Boxed<Stmt>>
     ensures { Gives (λ x. (x.0, x.1.now)) result (spec.read_while_stmt names.now (spec.levels names.now left) ts.now) }
 {
     let (place, rest) = expect(ts, Sign::Word(Keyword::While))?;
@@ -295,120 +306,70 @@ fn while_stmt<'a>(alloc: Global, names: &[Text], left: usize, ts: &'a [Token]) -
     let (test, rest) = expr(alloc, names, left, rest)?;
     let (_close, rest) = expect(rest, Sign::Mark(Punct::ParenClose))?;
     let (body, rest) = stmt(alloc, names, left, rest)?;
-    Ok((while_loop(alloc, place, test, body)?, rest))
+    let whole = Stmt::While(place, test.into_inner(), body);
+    Ok((Boxed::new(alloc, whole)?, rest))
 }
 
 /// "do" stmt "while" "(" expr ")" ";"
 #[cycle(stmts)]
 #[tactic(auto, unfolding(c_grammar::specs::Reading::read_do_stmt))]
-fn do_stmt<'a>(alloc: Global, names: &[Text], left: usize, ts: &'a [Token]) -> Read<'a, Stmt>
+fn do_stmt<'a>(alloc: Global, names: &[Text], left: usize, ts: &'a [Token]) -> Read<'a, Boxed<Stmt>>
     ensures { Gives (λ x. (x.0, x.1.now)) result (spec.read_do_stmt names.now (spec.levels names.now left) ts.now) }
 {
     let (place, rest) = expect(ts, Sign::Word(Keyword::Do))?;
     let (body, rest) = stmt(alloc, names, left, rest)?;
-    do_end(alloc, names, left, place, body, rest)
-}
-
-/// "while" "(" expr ")" ";", after "do" stmt.
-fn do_end<'a>(
-    alloc: Global,
-    names: &[Text],
-    left: usize,
-    place: Place,
-    body: Stmt,
-    ts: &'a [Token],
-) -> Read<'a, Stmt>
-    ensures { Gives (λ x. (x.0, x.1.now)) result (parts_of.read_do_end names.now (spec.levels names.now left) place body ts.now) }
-{
-    let (_while, rest) = expect(ts, Sign::Word(Keyword::While))?;
+    let (_while, rest) = expect(rest, Sign::Word(Keyword::While))?;
     let (_open, rest) = expect(rest, Sign::Mark(Punct::ParenOpen))?;
     let (test, rest) = expr(alloc, names, left, rest)?;
     let (_close, rest) = expect(rest, Sign::Mark(Punct::ParenClose))?;
     let (_end, rest) = expect(rest, Sign::Mark(Punct::Semicolon))?;
-    Ok((do_loop(alloc, place, body, test)?, rest))
+    let whole = Stmt::DoWhile(place, body, test.into_inner());
+    Ok((Boxed::new(alloc, whole)?, rest))
 }
 
 /// "for" "(" ( decl | [ expr ] ";" ) [ expr ] ";" [ expr ] ")" stmt
 #[cycle(stmts)]
 #[tactic(auto, unfolding(c_grammar::specs::Reading::read_for_stmt))]
-fn for_stmt<'a>(alloc: Global, names: &[Text], left: usize, ts: &'a [Token]) -> Read<'a, Stmt>
+fn for_stmt<'a>(
+    alloc: Global,
+    names: &[Text],
+    left: usize,
+    ts: &'a [Token],
+) -> Read<'a, Boxed<Stmt>>
     ensures { Gives (λ x. (x.0, x.1.now)) result (spec.read_for_stmt names.now (spec.levels names.now left) ts.now) }
 {
     let (place, rest) = expect(ts, Sign::Word(Keyword::For))?;
     let (_open, rest) = expect(rest, Sign::Mark(Punct::ParenOpen))?;
     let (first, rest) = first(alloc, names, left, rest)?;
-    for_turns(alloc, names, left, place, first, rest)
-}
-
-/// [ expr ] ";" [ expr ] ")" stmt, after the first part of a `for`.
-#[cycle(stmts)]
-fn for_turns<'a>(
-    alloc: Global,
-    names: &[Text],
-    left: usize,
-    place: Place,
-    first: First,
-    ts: &'a [Token],
-) -> Read<'a, Stmt>
-    ensures { Gives (λ x. (x.0, x.1.now)) result (parts_of.read_for_turns names.now (spec.levels names.now left) place first ts.now) }
-{
-    let (test, rest) = opt_expr(alloc, names, left, ts)?;
+    let (test, rest) = opt_expr(alloc, names, left, rest)?;
     let (_end, rest) = expect(rest, Sign::Mark(Punct::Semicolon))?;
     let (next, rest) = opt_expr(alloc, names, left, rest)?;
-    let turns = Turns {
-        place,
-        first,
-        test,
-        next,
-    };
-    for_body(alloc, names, left, turns, rest)
-}
-
-/// ")" stmt, after what rules its turns.
-#[cycle(stmts)]
-fn for_body<'a>(
-    alloc: Global,
-    names: &[Text],
-    left: usize,
-    turns: Turns,
-    ts: &'a [Token],
-) -> Read<'a, Stmt>
-    ensures { Gives (λ x. (x.0, x.1.now)) result (parts_of.read_for_body (spec.levels names.now left) turns.place turns.first turns.test turns.next ts.now) }
-{
-    let (_close, rest) = expect(ts, Sign::Mark(Punct::ParenClose))?;
+    let (_close, rest) = expect(rest, Sign::Mark(Punct::ParenClose))?;
     let (body, rest) = stmt(alloc, names, left, rest)?;
-    Ok((for_loop(alloc, turns, body)?, rest))
+    let whole = Stmt::For(place, first.into_inner(), opened(test), opened(next), body);
+    Ok((Boxed::new(alloc, whole)?, rest))
 }
 
 /// "switch" "(" expr ")" "{" { label | decl | stmt } "}"
 #[cycle(stmts)]
 #[tactic(auto, unfolding(c_grammar::specs::Reading::read_switch_stmt))]
-fn switch_stmt<'a>(alloc: Global, names: &[Text], left: usize, ts: &'a [Token]) -> Read<'a, Stmt>
+fn switch_stmt<'a>(
+    alloc: Global,
+    names: &[Text],
+    left: usize,
+    ts: &'a [Token],
+) -> Read<'a, Boxed<Stmt>>
     ensures { Gives (λ x. (x.0, x.1.now)) result (spec.read_switch_stmt names.now (spec.levels names.now left) ts.now) }
 {
     let (place, rest) = expect(ts, Sign::Word(Keyword::Switch))?;
     let (_open, rest) = expect(rest, Sign::Mark(Punct::ParenOpen))?;
     let (value, rest) = expr(alloc, names, left, rest)?;
     let (_close, rest) = expect(rest, Sign::Mark(Punct::ParenClose))?;
-    switch_body(alloc, names, left, place, value, rest)
-}
-
-/// "{" { label | decl | stmt } "}", after "switch" "(" expr ")".
-#[cycle(stmts)]
-fn switch_body<'a>(
-    alloc: Global,
-    names: &[Text],
-    left: usize,
-    place: Place,
-    value: Expr,
-    ts: &'a [Token],
-) -> Read<'a, Stmt>
-    ensures { Gives (λ x. (x.0, x.1.now)) result (parts_of.read_switch_body names.now (spec.levels names.now left) place value ts.now) }
-{
-    let (_open, rest) = expect(ts, Sign::Mark(Punct::BraceOpen))?;
+    let (_open, rest) = expect(rest, Sign::Mark(Punct::BraceOpen))?;
     let (all, rest) = parts(alloc, names, left, List::new(alloc), rest)?;
     let (_close, rest) = expect(rest, Sign::Mark(Punct::BraceClose))?;
-    Ok((Stmt::Switch(place, value, all), rest))
+    let whole = Stmt::Switch(place, value.into_inner(), all);
+    Ok((Boxed::new(alloc, whole)?, rest))
 }
 
 /// label | decl | stmt, after others.
@@ -469,5 +430,5 @@ fn part<'a>(alloc: Global, names: &[Text], left: usize, ts: &'a [Token]) -> Read
         return Ok((Part::Decl(found), rest));
     }
     let (found, rest) = stmt(alloc, names, left, ts)?;
-    Ok((Part::Stmt(found), rest))
+    Ok((Part::Stmt(found.into_inner()), rest))
 }

@@ -27,9 +27,6 @@ decreases-exprs::cond l = l.left * 64 + 0
 abbrev pub decreases-exprs::chosen : goal.decreases-exprs::chosen
 decreases-exprs::chosen l = l.left * 64 + 4
 
-abbrev pub decreases-exprs::chosen_end : goal.decreases-exprs::chosen_end
-decreases-exprs::chosen_end l = l.left * 64 + 1
-
 abbrev pub decreases-exprs::op_item : goal.decreases-exprs::op_item
 decreases-exprs::op_item l = l.left * 64 + 2 + 3 * l.level
 

@@ -22,10 +22,7 @@ abbrev pub decreases-stmt_below : goal.decreases-stmt_below
 decreases-stmt_below l = l.left * 64 + 6
 
 abbrev pub decreases-if_stmt : goal.decreases-if_stmt
-decreases-if_stmt l = l.left * 64 + 3
-
-abbrev pub decreases-opt_else : goal.decreases-opt_else
-decreases-opt_else l = l.left * 64 + 2
+decreases-if_stmt l = l.left * 64 + 2
 
 abbrev pub decreases-if_else : goal.decreases-if_else
 decreases-if_else l = l.left * 64 + 1
@@ -37,19 +34,10 @@ abbrev pub decreases-do_stmt : goal.decreases-do_stmt
 decreases-do_stmt l = l.left * 64 + 1
 
 abbrev pub decreases-for_stmt : goal.decreases-for_stmt
-decreases-for_stmt l = l.left * 64 + 3
-
-abbrev pub decreases-for_turns : goal.decreases-for_turns
-decreases-for_turns l = l.left * 64 + 2
-
-abbrev pub decreases-for_body : goal.decreases-for_body
-decreases-for_body l = l.left * 64 + 1
+decreases-for_stmt l = l.left * 64 + 1
 
 abbrev pub decreases-switch_stmt : goal.decreases-switch_stmt
-decreases-switch_stmt l = l.left * 64 + 5
-
-abbrev pub decreases-switch_body : goal.decreases-switch_body
-decreases-switch_body l = l.left * 64 + 4
+decreases-switch_stmt l = l.left * 64 + 4
 
 abbrev pub decreases-part_item : goal.decreases-part_item
 decreases-part_item l = l.left * 64 + 2
