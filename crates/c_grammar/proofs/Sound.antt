@@ -40,7 +40,7 @@ use Rattle.c_grammar.specs.Tokens.{◌>>=◌, deep, is, next_is, expect, has, ta
 use Rattle.c_grammar.specs.Tokens.{group_token}
 use Rattle.c_grammar.specs.Grammar.{one_with, one_plain, OneAt, no_one, next_one, MoreOnes, attr_, AttrAt, no_attr, next_attr, Attrs, no_lead, next_lead, LeadAttrs, star_star, star_const, star_volatile, star_attr, StarAt, no_star, next_star, MoreStars, some_stars, no_stars, Stars, a_comma, no_comma, OptComma, exprs, ExprAt, no_expr, next_expr, MoreExprs, assigned, only_cond, Assign, chosen, only_binary, Cond, converted, only_unary, Cast, type_name, TypeNameAt, counted_unary, prefixed, only_postfix, Unary, step_before, a_sizeof, Stepped, sizeof_type, sizeof_expr, SizeofAt, postfixed, Postfix, no_access, next_access, Accesses, indexed, called, member_of, member_behind, step_after, AccessAt, some_args, no_args, Args, a_name, a_number, a_char, a_string, grouped, Primary, some_specs, SpecsAt, no_spec, next_spec, MoreSpecs, a_word, a_struct, an_enum, an_attr, a_type, SpecAt, struct_body, struct_tag, struct_plain, StructAt, braced_members, Members, no_member, next_member, MoreMembers, a_member, MemberAt, no_declarator, next_declarator, MoreDeclarators, enum_body, enum_tag, enum_plain, EnumAt, braced_enumrs, Enumrs, no_enumr, next_enumr, MoreEnumrs, enumr_value, enumr_plain, EnumrAt, plain_declarator, group_declarator, DeclaratorAt, no_suffix, next_suffix, Suffixes, array_suffix, params_suffix, SuffixAt, a_cond, no_cond, OptCond, void_only, some_params, no_params, ParamsAt, no_param, next_param, MoreParams, group_abstract, plain_abstract, AbstractAt, Binary, MoreOps, only_cast, binaries, no_op, next_op, ParamAt, named_param, unnamed_param, Next}
 use Rattle.c_grammar.specs.Units.{braced_initial, assign_initial, InitialAt, no_initial, next_initial, MoreInitials, init_value, init_plain, InitAt, no_init, next_init, MoreInits, bare_decl, inits_decl, DeclAt, an_expr, without_expr, OptExpr, first_decl, first_expr, FirstAt, case_label, default_label, LabelAt, braces, BlockAt, no_item, next_item, Items, decl_item, stmt_item, ItemAt, block_stmt, empty_stmt, return_stmt, break_stmt, continue_stmt, if_else, if_only, while_stmt, do_stmt, for_stmt, switch_stmt, expr_stmt, StmtAt, no_part, next_part, Parts, label_part, decl_part, stmt_part, PartAt}
-use Rattle.c_grammar.specs.Reading.{Readers, grouped_either, levels, no_either, no_nameless, opens_name, param_of, read_access, read_access_item, read_accesses, read_after_stars, read_args, read_array_suffix, read_assign, read_assigned, read_attr, read_attr_item, read_attrs, read_bare_either, read_binary, read_block, read_braced_initial, read_called, read_case_label, read_cast, read_chosen, read_cond, read_converted, read_decl, read_declarator, read_declarator_item, read_do_stmt, read_either, read_enum_named, read_enumr, read_enumr_item, read_enumr_value, read_enumrs, read_enums, read_expr, read_expr_item, read_first, read_for_stmt, read_group_abstract, read_group_declarator, read_group_either, read_grouped, read_if_else, read_if_stmt, read_indexed, read_init, read_init_item, read_init_value, read_initial, read_initial_item, read_inits_decl, read_item, read_item_item, read_items, read_label, read_lead_attrs, read_lead_item, read_member, read_member_item, read_members, read_more_declarators, read_more_enumrs, read_more_exprs, read_more_initials, read_more_inits, read_more_members, read_more_ones, read_more_ops, read_more_params, read_more_specs, read_more_stars, read_named_either, read_nameless, read_one, read_one_item, read_one_with, read_op_item, read_opt_comma, read_opt_cond, read_opt_expr, read_param, read_param_item, read_params, read_params_suffix, read_part, read_part_item, read_parts, read_plain_declarator, read_plain_either, read_postfix, read_prefixed, read_primary, read_return_stmt, read_size_of, read_sizeof_expr, read_sizeof_type, read_some_args, read_some_params, read_some_stars, read_spec, read_spec_item, read_specs, read_star, read_star_item, read_stars, read_step_before, read_stepped, read_stmt, read_struct_named, read_structs, read_suffix, read_suffix_item, read_suffixes, read_switch_stmt, read_typename, read_unary, read_while_stmt}
+use Rattle.c_grammar.specs.Reading.{Readers, grouped_either, levels, no_either, no_nameless, opens_name, param_of, read_access, read_access_item, read_accesses, read_after_stars, read_args, read_array_suffix, read_assign, read_assigned, read_attr, read_attr_item, read_attrs, read_bare_either, read_binary, read_block, read_braced_initial, read_called, read_case_label, read_cast, read_chosen, read_cond, read_converted, read_decl, read_declarator, read_declarator_item, read_do_stmt, read_either, read_enum_named, read_enumr, read_enumr_item, read_enumr_value, read_enumrs, read_enums, read_expr, read_expr_item, read_first, read_for_stmt, read_group_abstract, read_group_declarator, read_group_either, read_grouped, read_if_else, read_if_stmt, read_indexed, read_init, read_init_end, read_init_item, read_init_value, read_initial, read_initial_item, read_inits_decl, read_item, read_item_item, read_items, read_label, read_lead_attrs, read_lead_item, read_member, read_member_item, read_members, read_more_declarators, read_more_enumrs, read_more_exprs, read_more_initials, read_more_inits, read_more_members, read_more_ones, read_more_ops, read_more_params, read_more_specs, read_more_stars, read_named_either, read_nameless, read_one, read_one_item, read_one_with, read_op_item, read_opt_comma, read_opt_cond, read_opt_expr, read_param, read_param_item, read_params, read_params_suffix, read_part, read_part_item, read_parts, read_plain_declarator, read_plain_either, read_postfix, read_prefixed, read_primary, read_return_stmt, read_size_of, read_sizeof_expr, read_sizeof_type, read_some_args, read_some_params, read_some_stars, read_spec, read_spec_item, read_specs, read_star, read_star_item, read_stars, read_step_before, read_stepped, read_stmt, read_struct_named, read_structs, read_suffix, read_suffix_item, read_suffixes, read_switch_stmt, read_typename, read_unary, read_while_stmt}
 use Rattle.c_grammar.specs.declared.either.Either.{Either}
 use Rattle.c_grammar.specs.declared.either.Either.TheVariants as either
 use Rattle.c_grammar.proofs.Soundness.{Sound, and_so, done, fails, either, weaker, repeat_sound, repeat_sound_end, expect_sound, take_sound}
@@ -327,9 +327,15 @@ module _ (names : List (List ℕ)) (below : Readers) (h : Sounds names below) wh
   unfolding read_initial read_braced_initial
   initial_sound ts = either (next_is (Mark mark.BraceOpen) ts) (read_braced_initial names below ts) (below.assign ts >>= (λ e. Ok (initial.Assign e.0, e.1))) (λ y0. and_so _ (expect_sound (Mark mark.BraceOpen) ts) (λ p r1 d0. and_so _ (h.initials r1) (λ x r2 d1. and_so _ (more_initials_sound (x ∷ []) r2) (λ xs r3 d2. and_so _ (opt_comma_sound r3) (λ b r4 d3. and_so _ (expect_sound (Mark mark.BraceClose) r4) (λ c r5 d4. done (braced_initial d0 d1 d2 d3 d4))))))) (λ n0. and_so _ (h.assign ts) (λ e r1 d0. done (assign_initial d0)))
 
+  pub init_end_sound : (d : Declarator) (xs : List Attr) (ts r1 r2 : List Token) → DeclaratorAt names ts d r1 → Attrs names r1 [] xs r2 → Sound (InitAt names ts) (read_init_end below d xs r2)
+  unfolding read_init_end read_init_value
+  init_end_sound d xs ts r1 r2 d0 d1 = either (next_is (Mark mark.Assign) r2) (read_init_value below d xs r2) (Ok (record { declarator = d; attrs = xs; value = None }, r2))
+      (λ _. and_so _ (expect_sound (Mark mark.Assign) r2) (λ k r3 d2. and_so _ (h.initials r3) (λ v rest d3. done (init_value d0 d1 d2 d3))))
+      (λ _. done (init_plain d0 d1))
+
   pub init_sound : (ts : List Token) → Sound (InitAt names ts) (read_init names below ts)
-  unfolding read_init read_init_value
-  init_sound ts = and_so _ (h.declarator ts) (λ d r1 d0. and_so _ (attrs_sound names [] r1) (λ xs r2 d1. either (next_is (Mark mark.Assign) r2) (read_init_value names below d xs r2) (Ok (record { declarator = d; attrs = xs; value = None }, r2)) (λ y0. and_so _ (expect_sound (Mark mark.Assign) r2) (λ k r3 d2. and_so _ (h.initials r3) (λ v r4 d3. done (init_value d0 d1 d2 d3)))) (λ n0. done (init_plain d0 d1))))
+  unfolding read_init
+  init_sound ts = and_so _ (h.declarator ts) (λ d r1 d0. and_so _ (attrs_sound names [] r1) (λ xs r2 d1. init_end_sound d xs ts r1 r2 d0 d1))
 
   init_item_sound : (so_far : List Init) (ts : List Token) → Sound (λ b r. (all : List Init) (rest : List Token) → MoreInits names r b all rest → MoreInits names ts so_far all rest) (read_init_item names below so_far ts)
   unfolding read_init_item

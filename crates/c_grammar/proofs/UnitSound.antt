@@ -1,5 +1,5 @@
 -- A unit that is read derives.
-use Rattle.std.proofs.Common.{◌≡◌, ℕ, List, [], ◌∷◌, ◌++◌, length, None, Ok, refl, sym, ap, subst}
+use Rattle.std.proofs.Common.{◌≡◌, ℕ, List, [], ◌∷◌, ◌++◌, length, Ok, refl, sym, ap, subst}
 use Rattle.c_lex.specs.declared.token.Punct.TheVariants as mark
 use Rattle.c_lex.specs.declared.token.Token.{Token}
 use Rattle.c_grammar.specs.declared.tokens.Sign.TheVariants.{Mark}
@@ -10,10 +10,10 @@ use Rattle.c_ast.specs.declared.stmt.External.{External}
 use Rattle.c_ast.specs.declared.stmt.External.TheVariants as external
 use Rattle.c_grammar.specs.Tokens.{next_is, has, include_of}
 use Rattle.c_grammar.specs.Grammar.{Attrs, SpecsAt, DeclaratorAt}
-use Rattle.c_grammar.specs.Units.{init_value, init_plain, InitAt, bare_decl, inits_decl, DeclAt, FunctionAt, a_function, UnitAt, unit_end, unit_include, unit_decl, unit_function, Derives}
-use Rattle.c_grammar.specs.Reading.{Readers, Unit_so_far, added, levels, read_after_attrs, read_after_specs, read_bare, read_declared, read_external, read_first_init, read_first_value, read_function_body, read_include, read_no_include, read_other_inits, read_part_of_unit, read_unit}
+use Rattle.c_grammar.specs.Units.{bare_decl, inits_decl, DeclAt, FunctionAt, a_function, UnitAt, unit_end, unit_include, unit_decl, unit_function, Derives}
+use Rattle.c_grammar.specs.Reading.{Readers, Unit_so_far, added, levels, read_after_attrs, read_after_specs, read_bare, read_declared, read_external, read_function_body, read_include, read_no_include, read_other_inits, read_part_of_unit, read_unit}
 use Rattle.c_grammar.proofs.Soundness.{Sound, and_so, done, either, repeat_sound, expect_sound, take_sound}
-use Rattle.c_grammar.proofs.Sound.{Sounds, levels_sound, attrs_sound, specs_sound, block_sound, more_inits_sound}
+use Rattle.c_grammar.proofs.Sound.{Sounds, levels_sound, attrs_sound, specs_sound, block_sound, init_end_sound, more_inits_sound}
 
 -- a declaration or a function
 abbrev pub ExternalAt : List (List ℕ) → List Token → External → List Token → Type 0
@@ -22,18 +22,12 @@ ExternalAt names ts (external.Decl d) r = DeclAt names ts d r
 ExternalAt names ts (external.Function f) r = FunctionAt names ts f r
 
 module _ (names : List (List ℕ)) (below : Readers) (h : Sounds names below) where
-  first_init_sound : (d : Declarator) (xs : List Attr) (ts r1 r2 : List Token) → DeclaratorAt names ts d r1 → Attrs names r1 [] xs r2 → Sound (InitAt names ts) (read_first_init below d xs r2)
-  unfolding read_first_init read_first_value
-  first_init_sound d xs ts r1 r2 d0 d1 = either (next_is (Mark mark.Assign) r2) (read_first_value below d xs r2) (Ok (record { declarator = d; attrs = xs; value = None }, r2))
-      (λ _. and_so _ (expect_sound (Mark mark.Assign) r2) (λ k r3 d2. and_so _ (h.initials r3) (λ v rest d3. done (init_value d0 d1 d2 d3))))
-      (λ _. done (init_plain d0 d1))
-
   after_attrs_sound : (s : List Spec) (d : Declarator) (xs : List Attr) (ts r1 r2 r3 : List Token) → SpecsAt names ts s r1 → DeclaratorAt names r1 d r2 → Attrs names r2 [] xs r3 →
       Sound (ExternalAt names ts) (read_after_attrs names below s d xs r3)
   unfolding read_after_attrs read_function_body read_other_inits
   after_attrs_sound s d xs ts r1 r2 r3 d0 d1 d2 = either (next_is (Mark mark.BraceOpen) r3) (read_function_body names below s d xs r3) (read_other_inits names below s d xs r3)
       (λ _. and_so _ (block_sound names below h r3) (λ b rest d3. done (a_function d0 d1 d2 d3)))
-      (λ _. and_so _ (first_init_sound d xs r1 r2 r3 d1 d2) (λ i r4 d3. and_so _ (more_inits_sound names below h (i ∷ []) r4) (λ is r5 d4. and_so _ (expect_sound (Mark mark.Semicolon) r5) (λ c rest d5. done (inits_decl d0 d3 d4 d5)))))
+      (λ _. and_so _ (init_end_sound names below h d xs r1 r2 r3 d1 d2) (λ i r4 d3. and_so _ (more_inits_sound names below h (i ∷ []) r4) (λ is r5 d4. and_so _ (expect_sound (Mark mark.Semicolon) r5) (λ c rest d5. done (inits_decl d0 d3 d4 d5)))))
 
   pub external_sound : (ts : List Token) → Sound (ExternalAt names ts) (read_external names below ts)
   unfolding read_external read_after_specs read_bare read_declared

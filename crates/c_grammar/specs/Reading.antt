@@ -605,17 +605,23 @@ read_initial names below ts =
     if next_is (Mark mark.BraceOpen) ts then read_braced_initial names below ts
     else below.assign ts >>= (λ e. Ok (initial.Assign e.0, e.1))
 
-unfoldable pub read_init_value : List (List ℕ) → Readers → Declarator → (List Attr) → List Token → Read Init
-read_init_value names below d xs ts = do
+unfoldable pub read_init_value : Readers → Declarator → List Attr → List Token → Read Init
+read_init_value below d xs ts = do
   k ← expect (Mark mark.Assign) ts
   v ← below.initials k.1
   Ok (record { declarator = d; attrs = xs; value = Some v.0 }, v.1)
+
+-- what stands after a declarator and its attributes
+unfoldable pub read_init_end : Readers → Declarator → List Attr → List Token → Read Init
+read_init_end below d xs ts =
+    if next_is (Mark mark.Assign) ts then read_init_value below d xs ts
+    else Ok (record { declarator = d; attrs = xs; value = None }, ts)
 
 unfoldable pub read_init : List (List ℕ) → Readers → List Token → Read Init
 read_init names below ts = do
   d ← below.declarator ts
   xs ← read_attrs names [] d.1
-  if next_is (Mark mark.Assign) xs.1 then read_init_value names below d.0 xs.0 xs.1 else Ok (record { declarator = d.0; attrs = xs.0; value = None }, xs.1)
+  read_init_end below d.0 xs.0 xs.1
 
 unfoldable pub read_init_item : List (List ℕ) → Readers → List Init → List Token → Read (List Init)
 read_init_item names below so_far ts = do
@@ -821,20 +827,9 @@ read_function_body names below s d xs ts = do
   b ← read_block names below ts
   Ok (external.Function (record { specs = s; declarator = d; attrs = xs; body = b.0 }), b.1)
 
-unfoldable pub read_first_value : Readers → Declarator → List Attr → List Token → Read Init
-read_first_value below d xs ts = do
-  k ← expect (Mark mark.Assign) ts
-  v ← below.initials k.1
-  Ok (record { declarator = d; attrs = xs; value = Some v.0 }, v.1)
-
-unfoldable pub read_first_init : Readers → Declarator → List Attr → List Token → Read Init
-read_first_init below d xs ts =
-    if next_is (Mark mark.Assign) ts then read_first_value below d xs ts
-    else Ok (record { declarator = d; attrs = xs; value = None }, ts)
-
 unfoldable pub read_other_inits : List (List ℕ) → Readers → List Spec → Declarator → List Attr → List Token → Read External
 read_other_inits names below s d xs ts = do
-  i ← read_first_init below d xs ts
+  i ← read_init_end below d xs ts
   is ← read_more_inits names below (i.0 ∷ []) i.1
   c ← expect (Mark mark.Semicolon) is.1
   Ok (external.Decl (record { specs = s; inits = is.0 }), c.1)

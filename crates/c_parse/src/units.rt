@@ -4,14 +4,14 @@ ghost use Rattle.c_grammar.specs.Tokens.{Gives};
 ghost use Rattle.c_grammar.specs.Reading as spec;
 
 use crate::names::{added, header_names};
-use c_ast::{Attr, Decl, Declarator, External, Function, Init, Spec};
+use c_ast::{Attr, Decl, Declarator, External, Function, Spec};
 use c_exprs::declarators::declarator;
 use c_exprs::types::specs;
 use c_grammar::tokens::{Read, Sign, expect, has_include, next_is, take_include};
 use c_lex::token::{Punct, Token};
 use c_nodes::attrs::attrs;
 use c_nodes::nodes::alone;
-use c_stmts::decls::{initial, more_inits};
+use c_stmts::decls::{init_end, more_inits};
 use c_stmts::stmts::block;
 use cm_base::{List, Text};
 use std::alloc::Global;
@@ -48,55 +48,6 @@ fn function_body<'a>(
     ))
 }
 
-/// [ "=" initial ], after the first declarator and its attributes.
-#[tactic(auto, unfolding(c_grammar::specs::Reading::read_first_init))]
-fn first_init<'a>(
-    alloc: Global,
-    names: &[Text],
-    left: usize,
-    declarator: Declarator,
-    attrs: List<Attr>,
-    ts: &'a [Token],
-) -> Read<'a, Init>
-    ensures { Gives (λ x. (x.0, x.1.now)) result (spec.read_first_init (spec.levels names.now left) declarator attrs ts.now) }
-{
-    if next_is(ts, Sign::Mark(Punct::Assign)) {
-        return first_value(alloc, names, left, declarator, attrs, ts);
-    }
-    Ok((
-        Init {
-            declarator,
-            attrs,
-            value: None,
-        },
-        ts,
-    ))
-}
-
-/// "=" initial, after the first declarator and its attributes.
-#[tactic(auto, unfolding(c_grammar::specs::Reading::read_first_value))]
-fn first_value<'a>(
-    alloc: Global,
-    names: &[Text],
-    left: usize,
-    declarator: Declarator,
-    attrs: List<Attr>,
-    ts: &'a [Token],
-) -> Read<'a, Init>
-    ensures { Gives (λ x. (x.0, x.1.now)) result (spec.read_first_value (spec.levels names.now left) declarator attrs ts.now) }
-{
-    let (_assign, rest) = expect(ts, Sign::Mark(Punct::Assign))?;
-    let (value, rest) = initial(alloc, names, left, rest)?;
-    Ok((
-        Init {
-            declarator,
-            attrs,
-            value: Some(value),
-        },
-        rest,
-    ))
-}
-
 /// [ "=" initial ] { "," init } ";", after the first declarator and its attributes.
 #[tactic(auto, unfolding(c_grammar::specs::Reading::read_other_inits))]
 fn other_inits<'a>(
@@ -110,7 +61,7 @@ fn other_inits<'a>(
 ) -> Read<'a, External>
     ensures { Gives (λ x. (x.0, x.1.now)) result (spec.read_other_inits names.now (spec.levels names.now left) specs declarator attrs ts.now) }
 {
-    let (first, rest) = first_init(alloc, names, left, declarator, attrs, ts)?;
+    let (first, rest) = init_end(alloc, names, left, declarator, attrs, ts)?;
     let (inits, rest) = more_inits(alloc, names, left, alone(alloc, first)?, rest)?;
     let (_end, rest) = expect(rest, Sign::Mark(Punct::Semicolon))?;
     Ok((External::Decl(Decl { specs, inits }), rest))

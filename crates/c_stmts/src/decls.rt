@@ -103,8 +103,23 @@ fn init<'a>(alloc: Global, names: &[Text], left: usize, ts: &'a [Token]) -> Read
 {
     let (declarator, rest) = declarator(alloc, names, left, ts)?;
     let (attrs, rest) = attrs(alloc, names, List::new(alloc), rest)?;
-    if next_is(rest, Sign::Mark(Punct::Assign)) {
-        return init_value(alloc, names, left, declarator, attrs, rest);
+    init_end(alloc, names, left, declarator, attrs, rest)
+}
+
+/// [ "=" initial ], after its declarator and attributes.
+#[tactic(auto, unfolding(c_grammar::specs::Reading::read_init_end))]
+pub fn init_end<'a>(
+    alloc: Global,
+    names: &[Text],
+    left: usize,
+    declarator: Declarator,
+    attrs: List<Attr>,
+    ts: &'a [Token],
+) -> Read<'a, Init>
+    ensures { Gives (λ x. (x.0, x.1.now)) result (spec.read_init_end (spec.levels names.now left) declarator attrs ts.now) }
+{
+    if next_is(ts, Sign::Mark(Punct::Assign)) {
+        return init_value(alloc, names, left, declarator, attrs, ts);
     }
     Ok((
         Init {
@@ -112,7 +127,7 @@ fn init<'a>(alloc: Global, names: &[Text], left: usize, ts: &'a [Token]) -> Read
             attrs,
             value: None,
         },
-        rest,
+        ts,
     ))
 }
 
@@ -126,7 +141,7 @@ fn init_value<'a>(
     attrs: List<Attr>,
     ts: &'a [Token],
 ) -> Read<'a, Init>
-    ensures { Gives (λ x. (x.0, x.1.now)) result (spec.read_init_value names.now (spec.levels names.now left) declarator attrs ts.now) }
+    ensures { Gives (λ x. (x.0, x.1.now)) result (spec.read_init_value (spec.levels names.now left) declarator attrs ts.now) }
 {
     let (_assign, rest) = expect(ts, Sign::Mark(Punct::Assign))?;
     let (value, rest) = initial(alloc, names, left, rest)?;

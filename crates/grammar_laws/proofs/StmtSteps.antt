@@ -20,7 +20,7 @@ use Rattle.c_ast.specs.declared.stmt.Stmt.{Stmt}
 use Rattle.c_grammar.specs.Tokens.{begins_expr, begins_spec, comma_more, expect, is, is_sign, next_is, spec_token, ◌>>=◌}
 use Rattle.c_grammar.specs.Grammar.{Assign, Attrs, Cond, DeclaratorAt, ExprAt, Next, OptComma, SpecsAt}
 use Rattle.c_grammar.specs.Units.{BlockAt, DeclAt, FirstAt, InitAt, InitialAt, ItemAt, Items, LabelAt, MoreInitials, MoreInits, OptExpr, PartAt, Parts, StmtAt, an_expr, assign_initial, bare_decl, block_stmt, braced_initial, braces, break_stmt, case_label, continue_stmt, decl_item, decl_part, default_label, do_stmt, empty_stmt, expr_stmt, first_decl, first_expr, for_stmt, if_else, if_only, init_plain, init_value, inits_decl, label_part, next_init, next_initial, next_item, next_part, no_init, no_initial, no_item, no_part, return_stmt, stmt_item, stmt_part, switch_stmt, while_stmt, without_expr}
-use Rattle.c_grammar.specs.Reading.{Readers, in_braces, levels, read_attrs, read_block, read_braced_initial, read_case_label, read_decl, read_do_stmt, read_expr, read_first, read_for_stmt, read_if_else, read_if_stmt, read_init, read_init_item, read_init_value, read_initial, read_initial_item, read_inits_decl, read_item, read_item_item, read_items, read_label, read_more_initials, read_more_inits, read_opt_expr, read_part, read_part_item, read_parts, read_return_stmt, read_stmt, read_switch_stmt, read_while_stmt}
+use Rattle.c_grammar.specs.Reading.{Readers, in_braces, levels, read_attrs, read_block, read_braced_initial, read_case_label, read_decl, read_do_stmt, read_expr, read_first, read_for_stmt, read_if_else, read_if_stmt, read_init, read_init_end, read_init_item, read_init_value, read_initial, read_initial_item, read_inits_decl, read_item, read_item_item, read_items, read_label, read_more_initials, read_more_inits, read_opt_expr, read_part, read_part_item, read_parts, read_return_stmt, read_stmt, read_switch_stmt, read_while_stmt}
 use Rattle.c_grammar.specs.Nesting.{deep_block, deep_decl, deep_first, deep_init, deep_initial, deep_label, deep_more_inits, deep_opt_expr}
 use Rattle.c_grammar.proofs.Shrinks.{next_shrinks}
 use Rattle.c_grammar.proofs.UnitShrinks.{init_shrinks, initial_shrinks, item_shrinks, part_shrinks}
@@ -69,12 +69,12 @@ more_initials_end names ts so_far n fuel h = ends _ _ fuel so_far ts h
 pub init_value_by : {names : List (List ℕ)} {ts r1 r2 r3 rest : List Token} {x : Declarator} {xs : List Attr} {k : Place} {v : Initial}
     (d0 : DeclaratorAt names ts x r1) (d1 : Attrs names r1 [] xs r2) (d2 : Next (Mark mark.Assign) r2 k r3) (d3 : InitialAt names r3 v rest) (n : ℕ) →
     DeclaratorReads d0 n → InitialReads d3 n → InitReads (init_value d0 d1 d2 d3) n
-unfolding read_init read_init_value read_attrs deep_init
+unfolding read_init read_init_end read_init_value read_attrs deep_init
 init_value_by d0 d1 d2 d3 n p q = and_so _ p (step _ (attrs_read d1 (other (Word word.Attribute) d2 refl) _ (omega arith)).holds (if_so _ (next_test d2) (step _ (next_expect d2) (and_last _ q done))))
 
 pub init_plain_by : {names : List (List ℕ)} {ts r1 rest : List Token} {x : Declarator} {xs : List Attr} (d0 : DeclaratorAt names ts x r1) (d1 : Attrs names r1 [] xs rest) (n : ℕ) →
     next_is (Word word.Attribute) rest ≡ false → next_is (Mark mark.Assign) rest ≡ false → DeclaratorReads d0 n → InitReads (init_plain d0 d1) n
-unfolding read_init read_attrs deep_init
+unfolding read_init read_init_end read_attrs deep_init
 init_plain_by d0 d1 n h1 h2 p = and_last _ p (step _ (attrs_read d1 h1 _ (omega arith)).holds (if_not _ h2 done))
 
 pub more_inits_turn : {names : List (List ℕ)} {ts r1 r2 rest : List Token} {k : Place} {x : Init} (so_far : List Init) {all : List Init}

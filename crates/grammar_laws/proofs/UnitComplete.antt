@@ -16,7 +16,7 @@ use Rattle.c_ast.specs.declared.stmt.External.{External}
 use Rattle.c_grammar.specs.Tokens.{begins_spec, include_of, is_sign}
 use Rattle.c_grammar.specs.Grammar.{Attrs, DeclaratorAt, Next, SpecsAt, Takes}
 use Rattle.c_grammar.specs.Units.{BlockAt, DeclAt, Derives, FunctionAt, InitialAt, MoreInits, UnitAt, a_function, bare_decl, braces, declared, header_names, init_plain, init_value, inits_decl, unit_decl, unit_end, unit_function, unit_include}
-use Rattle.c_grammar.specs.Reading.{is_some_token, levels, read_after_attrs, read_after_specs, read_attrs, read_bare, read_declared, read_external, read_first_init, read_first_value, read_function_body, read_include, read_more_inits, read_no_include, read_other_inits, read_part_of_unit, read_unit, repeat}
+use Rattle.c_grammar.specs.Reading.{is_some_token, levels, read_after_attrs, read_after_specs, read_attrs, read_bare, read_declared, read_external, read_function_body, read_include, read_init_end, read_init_value, read_more_inits, read_no_include, read_other_inits, read_part_of_unit, read_unit, repeat}
 use Rattle.c_grammar.specs.Nesting.{deep_decl, deep_declarator, deep_function, deep_init, deep_initial, deep_more_inits, deep_specs, deep_unit, earlier}
 use Rattle.c_grammar.proofs.Shrinks.{takes_shrinks}
 use Rattle.c_grammar.proofs.UnitShrinks.{decl_shrinks, function_shrinks}
@@ -54,7 +54,7 @@ value_external : {names : List (List ℕ)} {ts r1 r2 r3 r4 r5 r6 rest : List Tok
     (d2 : MoreInits names r5 (record { declarator = x; attrs = xs; value = Some v } ∷ []) all r6) (d3 : Next (Mark mark.Semicolon) r6 c rest) (n : ℕ) →
     SpecsReads d0 n → DeclaratorReads e0 n → InitialReads e3 n → MoreInitsReads d2 n (length r5) →
     Answers (read_external names (levels names n) ts) (earlier (deep_specs d0 n) (earlier (deep_declarator e0 n) (earlier (deep_initial e3 n) (deep_more_inits d2 n)))) (external.Decl (record { specs = s; inits = all }), rest)
-unfolding read_external read_after_specs read_declared read_after_attrs read_other_inits read_first_init read_first_value read_attrs read_more_inits
+unfolding read_external read_after_specs read_declared read_after_attrs read_other_inits read_init_end read_init_value read_attrs read_more_inits
 value_external d0 e0 e1 e2 e3 d2 d3 n p q r s =
     and_so _ p (if_not _ (declarator_no_semicolon e0) (and_so _ q (step _ (attrs_read e1 (other (Word word.Attribute) e2 refl) _ (omega arith)).holds (if_not _ (other (Mark mark.BraceOpen) e2 refl)
     (and_so _ (if_so _ (next_test e2) (step _ (next_expect e2) (and_last _ r done))) (and_last _ s (step _ (next_expect d3) done)))))))
@@ -63,7 +63,7 @@ plain_external : {names : List (List ℕ)} {ts r1 r2 r3 r4 rest : List Token} {s
     (d0 : SpecsAt names ts s r1) (e0 : DeclaratorAt names r1 x r2) (e1 : Attrs names r2 [] xs r3)
     (d2 : MoreInits names r3 (record { declarator = x; attrs = xs; value = None } ∷ []) all r4) (d3 : Next (Mark mark.Semicolon) r4 c rest) (n : ℕ) →
     SpecsReads d0 n → DeclaratorReads e0 n → MoreInitsReads d2 n (length r3) → DeclExternal (inits_decl d0 (init_plain e0 e1) d2 d3) n
-unfolding read_external read_after_specs read_declared read_after_attrs read_other_inits read_first_init read_attrs read_more_inits deep_decl deep_init
+unfolding read_external read_after_specs read_declared read_after_attrs read_other_inits read_init_end read_attrs read_more_inits deep_decl deep_init
 plain_external d0 e0 e1 d2 d3 n p q r =
     and_so _ p (if_not _ (declarator_no_semicolon e0) (and_so _ q (step _ (attrs_read e1 (more_inits_no_attr d2 d3) _ (omega arith)).holds (if_not _ (more_inits_at (is_sign (Mark mark.BraceOpen)) false (λ q. refl) (λ q. refl) d2 d3)
     (and_so {o1 = None} _ (if_not _ (more_inits_at (is_sign (Mark mark.Assign)) false (λ q. refl) (λ q. refl) d2 d3) done) (and_last _ r (step _ (next_expect d3) done)))))))
