@@ -1,7 +1,7 @@
 -- The regions of the device, as its data sheet would list them.
 use Rattle.std.specs.Prelude.{ℕ, ◌≡◌, List, [], ◌∷◌}
 use Rattle.cm_base.specs.declared.regions.Row.{Row}
-use Rattle.cm_base.specs.declared.regions.TheConstants.{PLATFORM}
+use Rattle.cm_base.specs.declared.regions.TheConstants.{PLATFORM, MAIN_SEAL, PROCESS_LIMIT, PROCESS_SEAL, DATA_POINTER, SEAL_WORD}
 
 abbrev pub from_to : ℕ → ℕ → Row
 from_to a b = record { from = a; to = b }
@@ -16,3 +16,8 @@ device_rows =
 -- the constant holds them
 abbrev pub HoldsDeviceRows : Type 0
 HoldsDeviceRows = PLATFORM.rows ≡ device_rows
+
+-- the addresses in Secure control that the start code knows, and the word that seals a stack
+abbrev pub HoldsDeviceWords : Type 0
+HoldsDeviceWords =
+    (MAIN_SEAL ≡ 0x30017FF8) × (PROCESS_LIMIT ≡ 0x30018000) × (PROCESS_SEAL ≡ 0x30018FF8) × (DATA_POINTER ≡ 0x30019000) × (SEAL_WORD ≡ 0xFEF5EDA5)

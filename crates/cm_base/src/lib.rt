@@ -1,4 +1,4 @@
-//! What every crate speaks of: lists, places in a source, refusals, the regions of the platform,
+//! What every crate speaks of: lists, shared nodes, places in a source, refusals, the regions of the platform,
 //! the stops of the machine, and the store and the sink.
 #![tactic(auto)]
 
@@ -12,6 +12,7 @@ mod out_sink;
 mod outside;
 mod place;
 mod regions;
+mod shared;
 mod stop;
 
 pub use file_store::FileStore;
@@ -22,7 +23,11 @@ pub use memory::NoMemory;
 pub use out_sink::OutSink;
 pub use outside::{Sink, Store, StoreFault};
 pub use place::{Place, Refusal};
-pub use regions::{PLATFORM, Regions, Row};
+pub use regions::{
+    DATA_POINTER, MAIN_SEAL, NS_RAM, NS_ROM, NSC, PLATFORM, PROCESS_LIMIT, PROCESS_SEAL, Regions, Row, SEAL_WORD,
+    SECURE_CONTROL, SECURE_DATA, SECURE_ROM,
+};
+pub use shared::Shared;
 pub use stop::Stop;
 
 #[cfg(test)]

@@ -1,5 +1,5 @@
 //! Each call once with ample memory, with the answers worked out by hand.
-use crate::{FileStore, MemSink, MemStore, OutSink, Sink, Store, StoreFault, Text};
+use crate::{FileStore, MemSink, MemStore, OutSink, Shared, Sink, Store, StoreFault, Text};
 use std::alloc::Global;
 use std::test::Fail;
 use std::{fs, process};
@@ -77,5 +77,17 @@ fn writes_to_the_output(rt: HostRuntime) -> Result<(), Fail> {
     let mut sink = OutSink::new(rt.clone()?);
     assert_eq!(rt; sink.put(b"one line\n"), Ok(()));
     assert_eq!(rt; sink.put(b""), Ok(()));
+    Ok(())
+}
+
+#[test]
+fn shares_a_node(rt: HostRuntime) -> Result<(), Fail> {
+    let alloc = rt.alloc();
+    let a = Shared::new(alloc, 7u32)?;
+    let b = a.share()?;
+    let c = Shared::new(alloc, 7u32)?;
+    assert_eq!(rt; *b.get(), 7);
+    assert!(rt; a.is_same_node(&b));
+    assert!(rt; !a.is_same_node(&c));
     Ok(())
 }
