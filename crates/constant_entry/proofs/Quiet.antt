@@ -10,7 +10,7 @@ use Rattle.v8m_isa.specs.Table.{size_of}
 use Rattle.ns_types.specs.declared.state.Cpu.{Cpu}
 use Rattle.ns_types.specs.declared.state.Side.{Side}
 use Rattle.ns_types.specs.declared.state.Side.TheVariants.{Secure, NonSecure, Stopped}
-use Rattle.ns_types.specs.declared.turn.Turn.{Turn}
+use Rattle.ns_types.specs.Turns.{Turn}
 use Rattle.ns_types.specs.declared.turn.Start.{Start}
 use Rattle.ns_types.specs.State.{State}
 use Rattle.ns_types.specs.Platform.{aligned}

@@ -6,7 +6,7 @@ use Rattle.v8m_isa.specs.Table.{size_of, code_of}
 use Rattle.v8m_isa.specs.declared.instr.Instr.TheVariants.{Bxns, B, Sg}
 use Rattle.ns_types.specs.declared.event.End.TheVariants as end
 use Rattle.ns_types.specs.declared.state.Side.TheVariants.{NonSecure}
-use Rattle.ns_types.specs.declared.turn.Turn.{Turn}
+use Rattle.ns_types.specs.Turns.{Turn}
 use Rattle.ns_types.specs.declared.turn.Start.{Start}
 use Rattle.ns_types.specs.declared.turn.View.{View}
 use Rattle.ns_types.specs.State.{State}

@@ -1,7 +1,7 @@
 -- A machine that shows exactly what a program shows declares what the program declares.
 use Rattle.std.proofs.Common.{ℕ, List, sym, subst, Option}
 use Rattle.ns_types.specs.declared.event.Bound.{Bound}
-use Rattle.ns_types.specs.declared.turn.Turn.{Turn}
+use Rattle.ns_types.specs.Turns.{Turn}
 use Rattle.ns_types.specs.declared.turn.Start.{Start}
 use Rattle.ns_types.specs.CRun.{Run}
 use Rattle.ns_types.specs.Show.{show}

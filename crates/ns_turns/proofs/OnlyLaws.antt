@@ -10,7 +10,7 @@ use Rattle.ns_types.specs.declared.event.End.{End}
 use Rattle.ns_types.specs.declared.event.End.TheVariants as end
 use Rattle.ns_types.specs.declared.event.Events.{Events}
 use Rattle.ns_types.specs.declared.event.Bound.{Bound}
-use Rattle.ns_types.specs.declared.turn.Turn.{Turn}
+use Rattle.ns_types.specs.Turns.{Turn}
 use Rattle.ns_types.specs.declared.turn.Start.{Start}
 use Rattle.ns_types.specs.CRun.{Run}
 use Rattle.ns_types.proofs.BoundLaws.{front_trans}

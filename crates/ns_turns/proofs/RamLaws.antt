@@ -13,13 +13,13 @@ use Rattle.ns_types.specs.declared.event.Events.{Events}
 use Rattle.ns_types.specs.declared.state.Side.{Side}
 use Rattle.ns_types.specs.declared.state.Side.TheVariants.{Secure, NonSecure, Stopped}
 use Rattle.ns_types.specs.declared.turn.Item.{Item}
-use Rattle.ns_types.specs.declared.turn.Turn.{Turn}
+use Rattle.ns_types.specs.Turns.{Turn}
 use Rattle.ns_types.specs.declared.turn.Start.{Start}
 use Rattle.ns_types.specs.State.{State}
 use Rattle.ns_types.specs.Platform.{row, lies_in, aligned}
 use Rattle.ns_types.specs.Memory.{put_number, load}
 use Rattle.ns_types.specs.Boundary.{Acted, acted, acted_or, item_stop, with_item}
-use Rattle.ns_types.specs.Ram.{is_turn, crosses, with_items, Moved, crossed, ram_at, AreSecure}
+use Rattle.ns_types.specs.Ram.{is_turn, crosses, with_items, Moved, moved_past, ram_at, AreSecure}
 use Rattle.ns_types.proofs.Crossings.{ram_same}
 use Rattle.v8m_core.specs.declared.stepped.Stepped.{Stepped}
 use Rattle.v8m_core.specs.declared.stepped.Stepped.TheVariants as what
@@ -140,7 +140,7 @@ acted_all (i ∷ items) ram e =
 -- the turns and the memory from which the hand-overs are counted: for Non-secure code those after its next crossing
 abbrev from : List ℕ → Side → List Turn → List ℕ → Moved
 from rom Secure ts ram = record { turns = ts; ram = ram }
-from rom NonSecure ts ram = crossed (gateway_at rom) ts ram
+from rom NonSecure ts ram = moved_past (gateway_at rom) ts ram
 from rom (Stopped x) ts ram = record { turns = ts; ram = ram }
 
 module _ (rom : List ℕ) (n : ℕ) (ts : List Turn) where
@@ -171,7 +171,7 @@ module _ (rom : List ℕ) (n : ℕ) (ts : List Turn) where
       ∙ sym (ap (λ (l : Events). ram_at (gateway_at rom) l.list k ts s.memory.ns_ram) (run_is_over rom n ts t x leads))
 
   -- a turn's branch, where its items have left u
-  counts_branch : (t : Turn) (ram : List ℕ) (u : State) → u.memory.ns_ram ≡ with_items t.items ram → (g : Goes) → goes_in rom t.target ≡ g → ((v : State) → AllTell rom n ts v → (k : ℕ) → Counts v k (from rom v.cpu.side ts v.memory.ns_ram)) → (k : ℕ) → AllTell rom n ts (arrived rom g (aligned 2 t.target) what.Went u).state → CountsAfter (arrived rom g (aligned 2 t.target) what.Went u) k (crossed (gateway_at rom) (t ∷ ts) ram)
+  counts_branch : (t : Turn) (ram : List ℕ) (u : State) → u.memory.ns_ram ≡ with_items t.items ram → (g : Goes) → goes_in rom t.target ≡ g → ((v : State) → AllTell rom n ts v → (k : ℕ) → Counts v k (from rom v.cpu.side ts v.memory.ns_ram)) → (k : ℕ) → AllTell rom n ts (arrived rom g (aligned 2 t.target) what.Went u).state → CountsAfter (arrived rom g (aligned 2 t.target) what.Went u) k (moved_past (gateway_at rom) (t ∷ ts) ram)
   unfolding goes_in return_to
   counts_branch t ram u same g e h k tell = by g (ap (λ x. not (is_turn x)) e) tell
     where
@@ -179,9 +179,9 @@ module _ (rom : List ℕ) (n : ℕ) (ts : List Turn) where
       next = with_items t.items ram
 
       moved : Bool → Moved
-      moved b = cond b (record { turns = ts; ram = next }) (crossed (gateway_at rom) ts next)
+      moved b = cond b (record { turns = ts; ram = next }) (moved_past (gateway_at rom) ts next)
 
-      is_moved : (b : Bool) → crosses (gateway_at rom) t ≡ b → crossed (gateway_at rom) (t ∷ ts) ram ≡ moved b
+      is_moved : (b : Bool) → crosses (gateway_at rom) t ≡ b → moved_past (gateway_at rom) (t ∷ ts) ram ≡ moved b
       is_moved b q = ap moved q
 
       back : (o : Option Stop) (a : ℕ) → AllTell rom n ts (unless o u (went (returned a u))).state → CountsAfter (unless o u (went (returned a u))) k (moved true)
@@ -195,20 +195,20 @@ module _ (rom : List ℕ) (n : ℕ) (ts : List Turn) where
       at_moved goes.EntryPoint tells = counts_over stop.EntryPoint u k (moved true)
       at_moved goes.Astray tells = counts_over stop.Astray u k (moved true)
 
-      by : (x : Goes) → crosses (gateway_at rom) t ≡ not (is_turn x) → AllTell rom n ts (arrived rom x (aligned 2 t.target) what.Went u).state → CountsAfter (arrived rom x (aligned 2 t.target) what.Went u) k (crossed (gateway_at rom) (t ∷ ts) ram)
+      by : (x : Goes) → crosses (gateway_at rom) t ≡ not (is_turn x) → AllTell rom n ts (arrived rom x (aligned 2 t.target) what.Went u).state → CountsAfter (arrived rom x (aligned 2 t.target) what.Went u) k (moved_past (gateway_at rom) (t ∷ ts) ram)
       by x q tells = subst (λ m. CountsAfter (arrived rom x (aligned 2 t.target) what.Went u) k m) (sym (is_moved (not (is_turn x)) q)) (at_moved x tells)
 
   -- a turn
-  counts_turn : (t : Turn) (s : State) → ((v : State) → AllTell rom n ts v → (k : ℕ) → Counts v k (from rom v.cpu.side ts v.memory.ns_ram)) → (k : ℕ) → AllTell rom n ts (turn_of rom t s).state → CountsAfter (turn_of rom t s) k (crossed (gateway_at rom) (t ∷ ts) s.memory.ns_ram)
+  counts_turn : (t : Turn) (s : State) → ((v : State) → AllTell rom n ts v → (k : ℕ) → Counts v k (from rom v.cpu.side ts v.memory.ns_ram)) → (k : ℕ) → AllTell rom n ts (turn_of rom t s).state → CountsAfter (turn_of rom t s) k (moved_past (gateway_at rom) (t ∷ ts) s.memory.ns_ram)
   unfolding turn_of
   counts_turn t s h k tell = by (acted t.items s.memory.ns_ram).stop refl tell
     where
       u : State
       u = turned t (acted t.items s.memory.ns_ram).ram s
 
-      by : (o : Option Stop) → (acted t.items s.memory.ns_ram).stop ≡ o → AllTell rom n ts (unless o u (arrived rom (goes_in rom t.target) (aligned 2 t.target) what.Went u)).state → CountsAfter (unless o u (arrived rom (goes_in rom t.target) (aligned 2 t.target) what.Went u)) k (crossed (gateway_at rom) (t ∷ ts) s.memory.ns_ram)
+      by : (o : Option Stop) → (acted t.items s.memory.ns_ram).stop ≡ o → AllTell rom n ts (unless o u (arrived rom (goes_in rom t.target) (aligned 2 t.target) what.Went u)).state → CountsAfter (unless o u (arrived rom (goes_in rom t.target) (aligned 2 t.target) what.Went u)) k (moved_past (gateway_at rom) (t ∷ ts) s.memory.ns_ram)
       by None e tells = counts_branch t s.memory.ns_ram u (acted_all t.items s.memory.ns_ram e) (goes_in rom t.target) refl h k tells
-      by (Some x) e tells = counts_over x u k (crossed (gateway_at rom) (t ∷ ts) s.memory.ns_ram)
+      by (Some x) e tells = counts_over x u k (moved_past (gateway_at rom) (t ∷ ts) s.memory.ns_ram)
 
 -- at most n steps from a state
 counts : (rom : List ℕ) (n : ℕ) (ts : List Turn) (s : State) → AllTell rom n ts s → (k : ℕ) → given_ram (moments rom n ts s) k ≡ (let m = from rom s.cpu.side ts s.memory.ns_ram in ram_at (gateway_at rom) (run_of rom n ts s).list k m.turns m.ram)
@@ -228,7 +228,7 @@ counts rom (suc n) ts s tell k = by (counts rom n) s.cpu.side refl ts tell
         ap (λ l. given_ram l k) (moments_waits rom (suc n) s side)
         ∙ sym (ap (λ (x : Events). ram_at (gateway_at rom) x.list k [] s.memory.ns_ram) (run_waits rom (suc n) s side))
     by rest NonSecure side (u ∷ us) t =
-        let m = crossed (gateway_at rom) (u ∷ us) s.memory.ns_ram in
+        let m = moved_past (gateway_at rom) (u ∷ us) s.memory.ns_ram in
         ap (λ l. given_ram l k) (moments_turn rom n u us s side)
         ∙ counts_turn rom n us u s (rest us) k (tell_turn rom n u us s side t)
         ∙ sym (ap (λ (x : Events). ram_at (gateway_at rom) x.list k m.turns m.ram) (run_turn rom n u us s (turn_of rom u s) side refl))

@@ -9,7 +9,7 @@ use Rattle.ns_types.specs.declared.event.Event.TheVariants as event
 use Rattle.ns_types.specs.declared.event.End.TheVariants as end
 use Rattle.ns_types.specs.declared.event.Events.{Events}
 use Rattle.ns_types.specs.declared.event.Bound.{Bound}
-use Rattle.ns_types.specs.declared.turn.Turn.{Turn}
+use Rattle.ns_types.specs.Turns.{Turn}
 use Rattle.ns_types.specs.declared.turn.Start.{Start}
 use Rattle.ns_types.specs.declared.turn.View.{View}
 use Rattle.ns_types.specs.Platform.{row}
@@ -17,7 +17,7 @@ use Rattle.ns_types.specs.Memory.{put_number}
 use Rattle.ns_types.specs.Prefix.{IsFront}
 use Rattle.ns_types.specs.CRun.{Run}
 use Rattle.ns_types.specs.Show.{show, events_shown}
-use Rattle.ns_types.specs.Ram.{crossed, ram_at}
+use Rattle.ns_types.specs.Ram.{moved_past, ram_at}
 use Rattle.ns_types.specs.Sight.{view_at, given_count}
 use Rattle.ns_types.specs.Marks.{first_tracker, IsTold}
 use Rattle.ns_types.proofs.ShowLaws.{shown_front}
@@ -45,7 +45,7 @@ ram_append enters (event.Wrote a n v ∷ xs) ys k ts ram lt = ram_append enters 
 ram_append enters (event.Stopped x ∷ xs) ys k ts ram lt = ram_append enters xs ys k ts ram lt
 ram_append enters (event.Given view ∷ xs) ys zero ts ram lt = refl
 ram_append enters (event.Given view ∷ xs) ys (suc k) ts ram lt =
-    let m = crossed enters ts ram in ram_append enters xs ys k m.turns m.ram (omega arith)
+    let m = moved_past enters ts ram in ram_append enters xs ys k m.turns m.ram (omega arith)
 
 counted : (xs : List Event) (k : ℕ) (v : View) → view_at xs k ≡ Some v → k < given_count xs
 counted [] k v e = absurd (cc)
@@ -73,7 +73,7 @@ ram_stop enters (event.Wrote a n v ∷ xs) x k ts ram = ram_stop enters xs x k t
 ram_stop enters (event.Stopped y ∷ xs) x k ts ram = ram_stop enters xs x k ts ram
 ram_stop enters (event.Given view ∷ xs) x zero ts ram = refl
 ram_stop enters (event.Given view ∷ xs) x (suc k) ts ram =
-    let m = crossed enters ts ram in ram_stop enters xs x k m.turns m.ram
+    let m = moved_past enters ts ram in ram_stop enters xs x k m.turns m.ram
 
 -- A hand-over of xs is one of ys, with the same memory.
 record Agrees (enters : ℕ → Option ℕ) (xs ys : List Event) (k : ℕ) (v : View) : Type 0 where

@@ -4,7 +4,7 @@ use Rattle.v8m_isa.specs.Table.{Decoded, decode_of, is_narrow}
 use Rattle.ns_types.specs.declared.event.Event.{Event}
 use Rattle.ns_types.specs.declared.event.Event.TheVariants as event
 use Rattle.ns_types.specs.declared.state.Cpu.{Cpu}
-use Rattle.ns_types.specs.declared.turn.Turn.{Turn}
+use Rattle.ns_types.specs.Turns.{Turn}
 use Rattle.ns_types.specs.declared.turn.Start.{Start}
 use Rattle.ns_types.specs.State.{State}
 use Rattle.ns_types.specs.Platform.{in_row}

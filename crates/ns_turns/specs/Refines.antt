@@ -7,7 +7,7 @@ use Rattle.ns_types.specs.declared.event.Event.TheVariants as event
 use Rattle.ns_types.specs.declared.event.End.TheVariants as end
 use Rattle.ns_types.specs.declared.event.Events.{Events}
 use Rattle.ns_types.specs.declared.event.Bound.{Bound}
-use Rattle.ns_types.specs.declared.turn.Turn.{Turn}
+use Rattle.ns_types.specs.Turns.{Turn}
 use Rattle.ns_types.specs.declared.turn.Start.{Start}
 use Rattle.ns_types.specs.CRun.{Run}
 use Rattle.ns_types.specs.Show.{Shown, show, events_shown}
@@ -35,42 +35,11 @@ pub record OutOfRoom (m : Events) (seen : List Event) (run : Run) (room : ℕ) :
   pub end : m.end ≡ end.Stopped
   pub need : room < run.peak
 
--- the bytes of the main stack below its seal
-abbrev pub room : ℕ
-room = 32760
-
 -- For every start, list of turns and bound there is a number of steps after which the machine has shown what the run
 -- shows, or is out of room.
 abbrev pub Refines : List ℕ → (ℕ → Option ℕ) → (Start → List Turn → Bound → Run) → Type 0
 Refines rom enters run =
     (start : Start) → IsStart start → (ts : List Turn) (b : Bound) → (n : ℕ) × (Same (machine_run rom start ts n) (seen_of enters (run start ts b)) (run start ts b) (min b.turns b.deep) n ⊎ OutOfRoom (machine_run rom start ts n) (seen_of enters (run start ts b)) (run start ts b) room)
-
--- the stops that only a machine has
-abbrev pub is_machine_stop : Stop → Bool
-is_machine_stop StackLimit = true
-is_machine_stop Undefined = true
-is_machine_stop Unaligned = true
-is_machine_stop Unmapped = true
-is_machine_stop BadState = true
-is_machine_stop Divide = false
-is_machine_stop Outside = false
-is_machine_stop Misaligned = false
-is_machine_stop DataStack = false
-is_machine_stop CallTarget = false
-is_machine_stop EntryPoint = false
-is_machine_stop Access = false
-is_machine_stop ReturnFault = false
-is_machine_stop Astray = false
-
-abbrev pub is_clean_event : Event → Bool
-is_clean_event (event.Given v) = true
-is_clean_event (event.Wrote at size value) = true
-is_clean_event (event.Stopped x) = not (is_machine_stop x)
-
--- no stop that only a machine has
-abbrev pub is_clean : List Event → Bool
-is_clean [] = true
-is_clean (e ∷ es) = is_clean_event e && is_clean es
 
 -- What the machine has shown after some steps is a front of what the run shows, without a stop of its own but a last
 -- one for want of stack, where the run needs more than there is. Where the machine waits, so does the run.

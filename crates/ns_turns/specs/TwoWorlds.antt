@@ -1,7 +1,7 @@
 -- Two starts of which a program declares the same look the same to the caller.
 use Rattle.std.specs.Prelude.{◌≡◌, ℕ, take, List, Option}
 use Rattle.ns_types.specs.declared.event.Bound.{Bound}
-use Rattle.ns_types.specs.declared.turn.Turn.{Turn}
+use Rattle.ns_types.specs.Turns.{Turn}
 use Rattle.ns_types.specs.declared.turn.Start.{Start}
 use Rattle.ns_types.specs.CRun.{Run}
 use Rattle.ns_types.specs.Show.{show, events_shown}

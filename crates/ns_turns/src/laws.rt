@@ -6,7 +6,7 @@ ghost use Rattle.ns_types.specs.declared.event.Bound.{Bound};
 ghost use Rattle.ns_types.specs.declared.event.End.TheVariants as end;
 ghost use Rattle.ns_types.specs.declared.state.Side.TheVariants as sides;
 ghost use Rattle.ns_types.specs.declared.turn.Start.{Start};
-ghost use Rattle.ns_types.specs.declared.turn.Turn.{Turn};
+ghost use Rattle.ns_types.specs.Turns.{Turn};
 ghost use Rattle.ns_types.specs.State.{State};
 ghost use Rattle.ns_types.specs.Ram.{AreSecure};
 ghost use Rattle.ns_types.specs.CRun.{Run};

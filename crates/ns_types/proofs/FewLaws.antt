@@ -6,12 +6,13 @@ use Rattle.cm_base.specs.declared.stop.Stop.TheVariants as stop
 use Rattle.ns_types.specs.declared.goes.Goes.{Goes}
 use Rattle.ns_types.specs.declared.goes.Goes.TheVariants as goes
 use Rattle.ns_types.specs.declared.event.CEvent.TheVariants as c
-use Rattle.ns_types.specs.declared.turn.Turn.{Turn}
+use Rattle.ns_types.specs.Turns.{Turn}
 use Rattle.ns_types.specs.declared.turn.Start.{Start}
 use Rattle.ns_types.specs.State.{Memory}
 use Rattle.ns_types.specs.Platform.{aligned}
 use Rattle.ns_types.specs.Boundary.{acted, goes_of, in_four, eight_zeros, kept_of, reset_address}
-use Rattle.ns_types.specs.CRun.{Marked, World, Outcome, Gave, Over, then_go, mark_at, emit, chain, phase, take_turn, turned, stop_or, stopped, at_top, run_of, fresh, c_run}
+use Rattle.ns_types.specs.declared.event.Marked.{Marked}
+use Rattle.ns_types.specs.CRun.{World, Outcome, Gave, Over, then_go, mark_at, emit, chain, phase, take_turn, turned, stop_or, stopped, at_top, run_of, fresh, c_run}
 use Rattle.ns_types.specs.Bounds.{world_of}
 use Rattle.ns_types.specs.Declares.{HasFewArguments, AllHaveFewArguments, KeepFew}
 

@@ -8,14 +8,16 @@ use Rattle.ns_types.specs.declared.goes.Goes.{Goes}
 use Rattle.ns_types.specs.declared.goes.Goes.TheVariants as goes
 use Rattle.ns_types.specs.declared.event.CEvent.{CEvent}
 use Rattle.ns_types.specs.declared.event.CEvent.TheVariants as c
-use Rattle.ns_types.specs.declared.turn.Turn.{Turn}
+use Rattle.ns_types.specs.Turns.{Turn}
 use Rattle.ns_types.specs.declared.turn.Start.{Start}
 use Rattle.ns_types.specs.State.{Memory}
 use Rattle.ns_types.specs.Platform.{aligned}
-use Rattle.ns_types.specs.Boundary.{Mark, acted, goes_of, in_four, eight_zeros, kept_of, start_mark}
-use Rattle.ns_types.specs.CRun.{Marked, World, Outcome, Gave, Over, then_go, mark_at, emit, emit_plain, chain, phase, take_turn, turned, stop_or, stopped, at_top, run_of, fresh, c_run}
+use Rattle.ns_types.specs.declared.event.Mark.{Mark}
+use Rattle.ns_types.specs.Boundary.{acted, goes_of, in_four, eight_zeros, kept_of, start_mark}
+use Rattle.ns_types.specs.declared.event.Marked.{Marked}
+use Rattle.ns_types.specs.CRun.{World, Outcome, Gave, Over, then_go, mark_at, emit, emit_plain, chain, phase, take_turn, turned, stop_or, stopped, at_top, run_of, fresh, c_run}
 use Rattle.ns_types.specs.Show.{Shown, show, shown_of}
-use Rattle.ns_types.specs.Marks.{Frame, Tracker, newest, older, crossing, cross, going, tracker_after, mark_by, tracked, tracker_behind, first_tracker, events_of, shown_each, IsTold, Follows, Left, Tracks, AreTracked}
+use Rattle.ns_types.specs.Marks.{Frame, Tracker, newest, older, tracker_past, tracker_onward, going, tracker_after, mark_by, tracked, tracker_behind, first_tracker, events_of, shown_each, IsTold, Follows, Left, Tracks, AreTracked}
 
 module _ (enters : ℕ → Option ℕ) where
   tracked_append : (xs ys : List CEvent) (t : Tracker) → tracked enters (xs ++ ys) t ≡ tracked enters xs t ++ tracked enters ys (tracker_behind enters xs t)
@@ -59,7 +61,7 @@ module _ (enters : ℕ → Option ℕ) where
       let m : Marked = record { event = c.Wrote a n v; mark = mark_at 0 eight_zeros w } in
       record { told = told_more first now w.events m f.told f.behind refl; behind = behind_more first now w.events m f.behind; turns = f.turns; msp_ns = f.msp_ns; psp_ns = f.psp_ns }
 
-  pub follows_called : (first now : Tracker) (target : ℕ) (args : List ℕ) (exit : ℕ) (kept : List ℕ) (w : World) → Follows enters first now now w → Follows enters first (cross enters now) now (emit (c.Called target args) (mark_at exit kept w) w)
+  pub follows_called : (first now : Tracker) (target : ℕ) (args : List ℕ) (exit : ℕ) (kept : List ℕ) (w : World) → Follows enters first now now w → Follows enters first (tracker_onward enters now) now (emit (c.Called target args) (mark_at exit kept w) w)
   follows_called first now target args exit kept w f =
       let e = c.Called target args in
       let m : Marked = record { event = e; mark = mark_at exit kept w } in
@@ -77,7 +79,7 @@ module _ (enters : ℕ → Option ℕ) where
 
   -- a phase of turns keeps to it, where the tracker is behind the crossing that follows
   abbrev pub PhaseIsTracked : (World → Outcome) → Type 0
-  PhaseIsTracked next = (first here : Tracker) (w : World) → Follows enters first (cross enters here) here w → Tracks enters first here.active (next w)
+  PhaseIsTracked next = (first here : Tracker) (w : World) → Follows enters first (tracker_onward enters here) here w → Tracks enters first here.active (next w)
 
   abbrev mark_of : Frame → ℕ → ℕ → Mark
   mark_of f msp psp = record { exit = f.exit; kept = f.kept; msp_ns = msp; psp_ns = psp }
@@ -137,7 +139,7 @@ module _ (enters : ℕ → Option ℕ) where
         let at : Follows enters first (going enters (goes_of enters t.target) (record { exit = aligned 2 t.lr; kept = kept_of t }) next) next u =
         record {
           told = record { shown = f.told.shown };
-          behind = f.behind ∙ ap (λ l. crossing enters here.active l here.msp_ns here.psp_ns) (sym f.turns ∙ e);
+          behind = f.behind ∙ ap (λ l. tracker_past enters here.active l here.msp_ns here.psp_ns) (sym f.turns ∙ e);
           turns = refl;
           msp_ns = refl;
           psp_ns = refl;

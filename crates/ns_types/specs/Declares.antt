@@ -5,7 +5,8 @@ use Rattle.ns_types.specs.declared.event.Event.TheVariants as event
 use Rattle.ns_types.specs.declared.event.CEvent.{CEvent}
 use Rattle.ns_types.specs.declared.event.CEvent.TheVariants as c
 use Rattle.ns_types.specs.declared.turn.View.{View}
-use Rattle.ns_types.specs.CRun.{Marked, World, Outcome}
+use Rattle.ns_types.specs.declared.event.Marked.{Marked}
+use Rattle.ns_types.specs.CRun.{World, Outcome}
 use Rattle.ns_types.specs.Bounds.{world_of}
 use Rattle.ns_types.specs.Show.{Shown}
 use Rattle.ns_types.specs.Prefix.{IsFront}

@@ -1,6 +1,10 @@
 //! What the Non-secure caller sets and sees.
 
+ghost use Rattle.std.specs.Prelude.{◌≤◌};
+ghost use Rattle.ns_types.specs.Turns.{IsTurn, AreTurns};
+
 use cm_base::{Bytes, List};
+use std::marker::Model;
 
 /// What memory holds when the device is reset.
 #[derive(Debug, Drop)]
@@ -33,6 +37,42 @@ pub struct Turn {
     pub psp_ns: u32,
     pub items: List<Item>,
     pub target: u32,
+}
+
+impl Model for Turn {
+    ghost use Rattle.ns_types.specs.Turns as spec;
+
+    ghost Value = { spec.Turn };
+
+    ghost view = { λ it. record {
+        r = it.r;
+        lr = it.lr;
+        nzcvq = it.nzcvq;
+        msp_ns = it.msp_ns;
+        psp_ns = it.psp_ns;
+        items = it.items;
+        target = it.target;
+    } };
+
+    ghost invariant = { λ it. it.nzcvq ≤ 31 };
+}
+
+impl Turn {
+    /// Each number of a turn fits where it goes.
+    pub fn within(&self)
+        ensures { IsTurn self.now }
+    {
+        let _ = &self.nzcvq;
+    }
+
+    /// So it is with many turns.
+    pub fn all_within(turns: &[Turn])
+        ensures { AreTurns turns.now }
+    {
+        for turn in turns {
+            turn.within();
+        }
+    }
 }
 
 /// All that Non-secure code sees of the registers where Secure code hands over.

@@ -5,7 +5,7 @@ use Rattle.std.proofs.lemmas.Bool.Decides.{nat_tests}
 use Rattle.std.proofs.lemmas.Nat.Bits.{and_high_mask}
 use Rattle.cm_base.specs.declared.stop.Stop.TheVariants as stop
 use Rattle.ns_types.specs.declared.goes.Goes.TheVariants as goes
-use Rattle.ns_types.specs.declared.turn.Turn.{Turn}
+use Rattle.ns_types.specs.Turns.{Turn}
 use Rattle.ns_types.specs.State.{State, Memory}
 use Rattle.ns_types.specs.Platform.{row, in_row, is_secure, is_nonsecure, is_in_rom, lies_in, aligned}
 use Rattle.ns_types.specs.Memory.{word_at, store, put_number}

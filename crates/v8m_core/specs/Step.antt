@@ -9,10 +9,11 @@ use Rattle.ns_types.specs.declared.goes.Goes.TheVariants as goes
 use Rattle.ns_types.specs.declared.state.Cpu.{Cpu}
 use Rattle.ns_types.specs.declared.state.Side.TheVariants.{Secure, NonSecure, Stopped}
 use Rattle.ns_types.specs.declared.turn.View.{View}
-use Rattle.ns_types.specs.declared.turn.Turn.{Turn}
+use Rattle.ns_types.specs.Turns.{Turn}
 use Rattle.ns_types.specs.State.{set_of, State}
 use Rattle.ns_types.specs.Platform.{row, in_row, lies_in, is_readable, is_writable, is_in_rom, aligned}
 use Rattle.ns_types.specs.Memory.{half_at, load, store}
+use Rattle.ns_types.specs.Gateway.{fetched, gateway_at}
 use Rattle.ns_types.specs.Boundary.{function_return, goes_of, acted}
 use Rattle.v8m_core.specs.Values.{sum32, difference32, signed_byte, signed_half}
 use Rattle.v8m_core.specs.Effects.{effect_or, moved, computed, bitwise, accessed, branched, named}
@@ -44,17 +45,6 @@ or_stop None b = b
 or_stop (Some x) b = Some x
 
 -- The gates (DDI0553: SG, BXNS, function return)
-
--- the halfword of Secure ROM at an address
-abbrev pub fetched : List ℕ → ℕ → ℕ
-fetched rom a = half_at rom (a - (row 2).from)
-
--- a Secure gateway stands at an address: SG within the Non-secure callable region
-unfoldable pub is_gateway : List ℕ → ℕ → Bool
-is_gateway rom a = lies_in 3 a 4 && (eqb (fetched rom a) 59775 && eqb (fetched rom (a + 2)) 59775)
-
-abbrev pub gateway_at : List ℕ → ℕ → Option ℕ
-gateway_at rom a = cond (is_gateway rom a) (Some a) None
 
 unfoldable pub goes_in : List ℕ → ℕ → Goes
 goes_in rom t = goes_of (gateway_at rom) t
