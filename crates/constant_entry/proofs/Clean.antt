@@ -23,8 +23,9 @@ use Rattle.ns_types.specs.declared.event.Marked.{Marked}
 use Rattle.ns_types.specs.CRun.{World, Outcome, Gave, Over, emit, mark_at, reach, chain, phase, at_top, run_of, fresh, stop_or, stopped, turned}
 use Rattle.ns_types.specs.Show.{show, shown_of, given_if, events_shown}
 use Rattle.ns_types.proofs.ShowLaws.{show_append, events_append}
-use Rattle.v8m_mem.specs.Rows.{memory_of}
-use Rattle.ns_turns.specs.Refines.{is_clean, is_clean_event, is_machine_stop, seen_of}
+use Rattle.ns_types.specs.Memory.{memory_of}
+use Rattle.ns_types.specs.Stops.{is_clean, is_clean_event, is_machine_stop}
+use Rattle.ns_turns.specs.Refines.{seen_of}
 use Rattle.constant_entry.specs.Meaning.{enters_first, gives, need, constant_run}
 
 abbrev clean_of : List Marked → Bool

@@ -9,7 +9,7 @@ use Rattle.ns_types.specs.declared.turn.View.{View}
 use Rattle.ns_types.specs.Platform.{row, is_nonsecure}
 use Rattle.ns_types.specs.Memory.{word_at}
 use Rattle.ns_types.specs.Boundary.{view, in_four, start_mark, turn_mark}
-use Rattle.v8m_core.specs.Step.{is_gateway}
+use Rattle.ns_types.specs.Gateway.{is_gateway}
 use Rattle.v8m_core.specs.Code.{HasCode}
 use Rattle.ns_turns.specs.Run.{machine_run}
 use Rattle.ns_types.specs.Prefix.{IsFront}

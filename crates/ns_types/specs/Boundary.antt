@@ -1,5 +1,5 @@
 -- The boundary between Non-secure and Secure code: where a branch goes, what a turn's items do, and what a view shows.
-use Rattle.std.specs.Prelude.{ℕ, ◌-◌, cond, eqb, List, [], ◌∷◌, ◌++◌, slice_index, slice_set, take, Option, Some, None}
+use Rattle.std.specs.Prelude.{ℕ, ◌+◌, ◌-◌, cond, eqb, List, [], ◌∷◌, ◌++◌, slice_index, slice_set, take, Option, Some, None}
 use Rattle.cm_base.specs.declared.stop.Stop.{Stop}
 use Rattle.cm_base.specs.declared.stop.Stop.TheVariants.{Access, Astray}
 use Rattle.ns_types.specs.declared.goes.Goes.{Goes}

@@ -1,6 +1,5 @@
 -- What holds of each event of a run.
-use Rattle.std.specs.Prelude.{ℕ, List}
-use Rattle.std.specs.List.{All}
+use Rattle.std.specs.Prelude.{ℕ, List, [], ◌∷◌}
 use Rattle.cm_base.specs.declared.stop.Stop.{Stop}
 use Rattle.cm_base.specs.declared.stop.Stop.TheVariants.{EntryPoint, Access, ReturnFault, Astray}
 use Rattle.ns_types.specs.declared.event.CEvent.{CEvent}
@@ -11,7 +10,8 @@ use Rattle.ns_types.specs.Bounds.{world_of}
 
 -- it holds of the events of a list
 abbrev pub EveryEvent : (CEvent → Type 0) → List Marked → Type 0
-EveryEvent P ms = All (λ m. P m.event) ms
+EveryEvent P [] = Unit {0}
+EveryEvent P (m ∷ ms) = P m.event × EveryEvent P ms
 
 -- it holds of the events that the boundary itself makes: the start, each result, and the stops of branches and items
 pub record HoldsAtBoundary (P : CEvent → Type 0) : Type 0 where

@@ -6,6 +6,9 @@ use Rattle.ns_types.specs.declared.event.Event.{Event}
 use Rattle.ns_types.specs.declared.event.Event.TheVariants as event
 use Rattle.ns_types.specs.declared.event.CEvent.{CEvent}
 use Rattle.ns_types.specs.declared.event.CEvent.TheVariants as c
+use Rattle.ns_types.specs.declared.event.Marked.{Marked}
+use Rattle.ns_types.specs.CRun.{World, Outcome}
+use Rattle.ns_types.specs.Every.{EveryEvent, Keep}
 
 -- the stops that only a machine has
 abbrev pub is_machine_stop : Stop → Bool
@@ -41,3 +44,10 @@ HasNoMachineStop (c.Wrote at size value) = Unit {0}
 HasNoMachineStop (c.Result entry r0) = Unit {0}
 HasNoMachineStop (c.Called target args) = Unit {0}
 HasNoMachineStop (c.Stopped x) = is_machine_stop x ≡ false
+
+abbrev pub AllHaveNoMachineStop : List Marked → Type 0
+AllHaveNoMachineStop ms = EveryEvent HasNoMachineStop ms
+
+-- bodies of entries keep to that
+abbrev pub KeepClean : (ℕ → List ℕ → World → Outcome) → Type 0
+KeepClean enter = Keep HasNoMachineStop enter

@@ -1,7 +1,8 @@
 //! What the Non-secure caller sets and sees.
 
-ghost use Rattle.std.specs.Prelude.{◌≤◌};
-ghost use Rattle.ns_types.specs.Turns.{IsTurn, AreTurns};
+ghost use Rattle.std.specs.Prelude.{◌≡◌, length};
+ghost use Rattle.std.specs.List.{All};
+ghost use Rattle.ns_types.specs.Turns.{IsItem, IsTurn, IsWord, AreTurns};
 
 use cm_base::{Bytes, List};
 use std::marker::Model;
@@ -40,6 +41,7 @@ pub struct Turn {
 }
 
 impl Model for Turn {
+    ghost use Rattle.std.specs.Prelude.{◌≤◌};
     ghost use Rattle.ns_types.specs.Turns as spec;
 
     ghost Value = { spec.Turn };
@@ -57,11 +59,24 @@ impl Model for Turn {
     ghost invariant = { λ it. it.nzcvq ≤ 31 };
 }
 
+/// Registers are thirteen words.
+fn are_words(r: &[u32; 13])
+    ensures count { length r.now ≡ 13 }
+    ensures words { All IsWord r.now }
+{}
+
+/// Items have an address and a byte.
+fn are_items(items: &[Item])
+    ensures { All IsItem items.now }
+{}
+
 impl Turn {
     /// Each number of a turn fits where it goes.
     pub fn within(&self)
         ensures { IsTurn self.now }
     {
+        are_words(&self.r);
+        are_items(self.items.as_slice());
         let _ = &self.nzcvq;
     }
 
