@@ -1,8 +1,7 @@
 //! What the Non-secure caller sets and sees.
 
 ghost use Rattle.std.specs.Prelude.{◌≡◌, length};
-ghost use Rattle.std.specs.List.{All};
-ghost use Rattle.ns_types.specs.Turns.{IsItem, IsTurn, IsWord, AreTurns};
+ghost use Rattle.ns_types.specs.Turns.{AreItems, AreTurns, AreWords, IsTurn};
 
 use cm_base::{Bytes, List};
 use std::marker::Model;
@@ -62,12 +61,12 @@ impl Model for Turn {
 /// Registers are thirteen words.
 fn are_words(r: &[u32; 13])
     ensures count { length r.now ≡ 13 }
-    ensures words { All IsWord r.now }
+    ensures words { AreWords r.now }
 {}
 
 /// Items have an address and a byte.
 fn are_items(items: &[Item])
-    ensures { All IsItem items.now }
+    ensures { AreItems items.now }
 {}
 
 impl Turn {
