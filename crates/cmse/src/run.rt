@@ -1,7 +1,7 @@
 //! The command `run`: an image and the turns of a script, played on the machine.
 ghost use Rattle.std.specs.Prelude.{◌≡◌, ◌≤◌, length, IfOk};
 ghost use Rattle.cm_base.specs.Outside.{Rose};
-ghost use Rattle.v8m_mem.specs.Rows.{IsStart};
+ghost use Rattle.ns_types.specs.Memory.{IsStart};
 ghost use Rattle.ns_turns.specs.Run.{machine_run};
 ghost use Rattle.ns_script.specs.Script.{HasRegions, Gives as GivesScript};
 ghost use Rattle.ns_script.specs.Transcript.{transcript_of};
@@ -65,9 +65,9 @@ fn transcript(
     turns: &[Turn],
     steps: u32,
 ) -> Result<Bytes, NoMemory>
-    requires rom { length image.now.rom ≡ 4194304 }
+    requires rom { length image.now.device ≡ 4194304 }
     requires start { IsStart start.now }
-    ensures { IfOk result (λ text. text ≡ transcript_of (machine_run image.now.rom start.now turns.now steps)) }
+    ensures { IfOk result (λ text. text ≡ transcript_of (machine_run image.now.device start.now turns.now steps)) }
 {
     let mut machine = Machine::new(alloc, image, start)?;
     let events = ns_turns::run(alloc, &mut machine, turns, u64::from(steps))?;

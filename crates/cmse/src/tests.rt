@@ -2,7 +2,7 @@
 //! out by hand from the platform's description.
 
 ghost use Rattle.std.specs.Prelude.{◌≡◌, ◌<◌, ◌^◌, IfOk, length, vec_len};
-ghost use Rattle.v8m_mem.specs.Rows.{IsStart};
+ghost use Rattle.ns_types.specs.Memory.{IsStart};
 
 use crate::command::cmse_main;
 use crate::status::status_text;

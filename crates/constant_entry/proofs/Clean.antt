@@ -10,19 +10,22 @@ use Rattle.ns_types.specs.declared.event.CEvent.{CEvent}
 use Rattle.ns_types.specs.declared.event.CEvent.TheVariants as c
 use Rattle.ns_types.specs.declared.event.Bound.{Bound}
 use Rattle.ns_types.specs.declared.event.End.TheVariants as end
-use Rattle.ns_types.specs.declared.turn.Turn.{Turn}
+use Rattle.ns_types.specs.Turns.{Turn}
 use Rattle.ns_types.specs.declared.turn.Item.{Item}
 use Rattle.ns_types.specs.declared.turn.Item.TheVariants.{Write, Read}
 use Rattle.ns_types.specs.declared.turn.Start.{Start}
 use Rattle.ns_types.specs.declared.turn.View.{View}
 use Rattle.ns_types.specs.State.{Memory}
 use Rattle.ns_types.specs.Platform.{in_row, is_secure, is_nonsecure, aligned}
-use Rattle.ns_types.specs.Boundary.{Mark, Acted, acted, acted_or, item_stop, with_item, in_four, eight_zeros, kept_of, goes_of, view_of, reset_address, start_mark}
-use Rattle.ns_types.specs.CRun.{Marked, World, Outcome, Gave, Over, emit, mark_at, reach, chain, phase, at_top, run_of, fresh, stop_or, stopped, turned}
+use Rattle.ns_types.specs.declared.event.Mark.{Mark}
+use Rattle.ns_types.specs.Boundary.{Acted, acted, acted_or, item_stop, with_item, in_four, eight_zeros, kept_of, goes_of, view_of, reset_address, start_mark}
+use Rattle.ns_types.specs.declared.event.Marked.{Marked}
+use Rattle.ns_types.specs.CRun.{World, Outcome, Gave, Over, emit, mark_at, reach, chain, phase, at_top, run_of, fresh, stop_or, stopped, turned}
 use Rattle.ns_types.specs.Show.{show, shown_of, given_if, events_shown}
 use Rattle.ns_types.proofs.ShowLaws.{show_append, events_append}
-use Rattle.v8m_mem.specs.Rows.{memory_of}
-use Rattle.ns_turns.specs.Refines.{is_clean, is_clean_event, is_machine_stop, seen_of}
+use Rattle.ns_types.specs.Memory.{memory_of}
+use Rattle.ns_types.specs.Stops.{is_clean, is_clean_event, is_machine_stop}
+use Rattle.ns_turns.specs.Refines.{seen_of}
 use Rattle.constant_entry.specs.Meaning.{enters_first, gives, need, constant_run}
 
 abbrev clean_of : List Marked → Bool

@@ -11,7 +11,7 @@ use Rattle.v8m_isa.specs.declared.instr.Instr.TheVariants.{Mov, Bxns, Udf, Movw,
 use Rattle.v8m_isa.specs.Table.{in_range_of, size_of, code_of}
 use Rattle.ns_types.specs.Platform.{lies_in}
 use Rattle.ns_types.specs.Memory.{half_at, word_at}
-use Rattle.v8m_core.specs.Step.{fetched, is_gateway}
+use Rattle.ns_types.specs.Gateway.{fetched, is_gateway}
 use Rattle.v8m_isa.proofs.Laws.{size-code_of, size_of_two_or_four}
 use Rattle.v8m_core.specs.Code.{two, HasCode, instr_bytes, code_bytes, AllInRange}
 use Rattle.v8m_core.proofs.Bytes.{word_at_seam, length_bytes, has_code}

@@ -10,11 +10,11 @@ use Rattle.v8m_isa.specs.Table.{size_of}
 use Rattle.ns_types.specs.declared.state.Cpu.{Cpu}
 use Rattle.ns_types.specs.declared.state.Side.{Side}
 use Rattle.ns_types.specs.declared.state.Side.TheVariants.{Secure, NonSecure, Stopped}
-use Rattle.ns_types.specs.declared.turn.Turn.{Turn}
+use Rattle.ns_types.specs.Turns.{Turn}
 use Rattle.ns_types.specs.declared.turn.Start.{Start}
 use Rattle.ns_types.specs.State.{State}
 use Rattle.ns_types.specs.Platform.{aligned}
-use Rattle.ns_types.specs.Memory.{word_at}
+use Rattle.ns_types.specs.Memory.{word_at, IsStart}
 use Rattle.ns_types.specs.Ram.{AreSecure}
 use Rattle.ns_types.specs.Boundary.{acted, reset_address}
 use Rattle.ns_types.specs.CRun.{World}
@@ -25,7 +25,6 @@ use Rattle.v8m_core.specs.Code.{Holds, HasCode, Does}
 use Rattle.v8m_core.specs.Reset.{reset_of}
 use Rattle.v8m_core.proofs.Runs.{does, stays, has_front, has_back}
 use Rattle.v8m_core.proofs.GateLaws.{aligned_even}
-use Rattle.v8m_mem.specs.Rows.{IsStart}
 use Rattle.ns_turns.specs.Run.{next_of}
 use Rattle.ns_turns.specs.Moments.{is_write, Tells, stacks_outside, AllTell, AlwaysKnowsRam}
 use Rattle.ns_turns.proofs.Tell.{told_apply}

@@ -15,13 +15,15 @@ use Rattle.ns_types.specs.declared.event.CEvent.TheVariants as c
 use Rattle.ns_types.specs.declared.event.End.TheVariants as end
 use Rattle.ns_types.specs.declared.event.Events.{Events}
 use Rattle.ns_types.specs.declared.state.Side.TheVariants.{NonSecure}
-use Rattle.ns_types.specs.declared.turn.Turn.{Turn}
+use Rattle.ns_types.specs.Turns.{Turn}
 use Rattle.ns_types.specs.declared.turn.View.{View}
 use Rattle.ns_types.specs.State.{State, Memory}
 use Rattle.ns_types.specs.Platform.{is_readable, is_secure, is_nonsecure, is_in_rom, aligned}
 use Rattle.ns_types.specs.Memory.{word_at, load}
-use Rattle.ns_types.specs.Boundary.{Mark, Acted, acted, in_four, kept_of, view, goes_of, goes_or, goes_outside, function_return}
-use Rattle.ns_types.specs.CRun.{Marked, World, Outcome, Gave, Over, emit, mark_at, reach, chain, phase, at_top, run_of, stop_or}
+use Rattle.ns_types.specs.declared.event.Mark.{Mark}
+use Rattle.ns_types.specs.Boundary.{Acted, acted, in_four, kept_of, view, goes_of, goes_or, goes_outside, function_return}
+use Rattle.ns_types.specs.declared.event.Marked.{Marked}
+use Rattle.ns_types.specs.CRun.{World, Outcome, Gave, Over, emit, mark_at, reach, chain, phase, at_top, run_of, stop_or}
 use Rattle.ns_types.specs.CRun as crun
 use Rattle.ns_types.specs.Show.{show, shown_of, given_if, events_shown}
 use Rattle.ns_types.proofs.ShowLaws.{events_append}

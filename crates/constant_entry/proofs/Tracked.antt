@@ -7,7 +7,7 @@ use Rattle.ns_types.specs.Marks.{Tracker, Follows, Tracks, AreTracked}
 use Rattle.ns_types.specs.Declares.{AllHaveFewArguments, KeepFew}
 use Rattle.ns_types.proofs.MarkLaws.{run_told}
 use Rattle.ns_types.proofs.FewLaws.{run_few}
-use Rattle.v8m_mem.specs.Rows.{memory_of}
+use Rattle.ns_types.specs.Memory.{memory_of}
 use Rattle.ns_turns.specs.Refines.{CallsFew}
 use Rattle.ns_turns.specs.TwoWorlds.{TellsAll}
 use Rattle.constant_entry.specs.Meaning.{enters_first, gives, constant_run}

@@ -6,7 +6,7 @@ use Rattle.v8m_isa.specs.Table.{size_of, code_of}
 use Rattle.v8m_isa.specs.declared.instr.Instr.TheVariants.{Bxns, B, Sg}
 use Rattle.ns_types.specs.declared.event.End.TheVariants as end
 use Rattle.ns_types.specs.declared.state.Side.TheVariants.{NonSecure}
-use Rattle.ns_types.specs.declared.turn.Turn.{Turn}
+use Rattle.ns_types.specs.Turns.{Turn}
 use Rattle.ns_types.specs.declared.turn.Start.{Start}
 use Rattle.ns_types.specs.declared.turn.View.{View}
 use Rattle.ns_types.specs.State.{State}
@@ -14,7 +14,8 @@ use Rattle.ns_types.specs.Platform.{is_nonsecure, aligned}
 use Rattle.ns_types.specs.Memory.{word_at}
 use Rattle.ns_types.specs.Boundary.{reset_address}
 use Rattle.v8m_core.specs.declared.stepped.Stepped.TheVariants as what
-use Rattle.v8m_core.specs.Step.{Done, fetched, is_gateway, went, seen, handed, entered, turned, step_of, bxns, effect_of, apply}
+use Rattle.ns_types.specs.Gateway.{fetched, is_gateway}
+use Rattle.v8m_core.specs.Step.{Done, went, seen, handed, entered, turned, step_of, bxns, effect_of, apply}
 use Rattle.v8m_core.specs.Values.{sum32}
 use Rattle.v8m_core.specs.Code.{Holds, HasCode, Comes}
 use Rattle.v8m_core.specs.Reset.{reset_of}

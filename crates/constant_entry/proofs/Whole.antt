@@ -7,7 +7,7 @@ use Rattle.ns_types.specs.declared.event.CEvent.TheVariants as c
 use Rattle.ns_types.specs.declared.event.Events.{Events}
 use Rattle.ns_types.specs.State.{State}
 use Rattle.ns_types.specs.Platform.{aligned}
-use Rattle.ns_types.specs.Memory.{word_at, store, put_word}
+use Rattle.ns_types.specs.Memory.{word_at, store, put_word, memory_of}
 use Rattle.ns_types.specs.Boundary.{in_four, eight_zeros, goes_of, reset_address, start_mark}
 use Rattle.ns_types.specs.CRun.{chain, phase, fresh}
 use Rattle.ns_types.specs.Show.{show, shown_of, given_if, events_shown}
@@ -15,7 +15,6 @@ use Rattle.v8m_core.specs.declared.stepped.Stepped.{Stepped}
 use Rattle.v8m_core.specs.declared.stepped.Stepped.TheVariants as what
 use Rattle.v8m_core.specs.Step.{Done, seen, bxns, arrived, effect_of, apply}
 use Rattle.v8m_core.specs.Code.{HasCode}
-use Rattle.v8m_mem.specs.Rows.{memory_of}
 use Rattle.v8m_core.specs.Reset.{reset_of}
 use Rattle.ns_turns.specs.Run as m
 use Rattle.ns_turns.specs.Run.{after, event_of, machine_run}

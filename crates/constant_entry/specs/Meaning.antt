@@ -2,10 +2,10 @@
 use Rattle.std.specs.Prelude.{ℕ, zero, suc, cond, eqb, List, Option, Some, None}
 use Rattle.ns_types.specs.declared.event.Bound.{Bound}
 use Rattle.ns_types.specs.declared.event.End.TheVariants as end
-use Rattle.ns_types.specs.declared.turn.Turn.{Turn}
+use Rattle.ns_types.specs.Turns.{Turn}
 use Rattle.ns_types.specs.declared.turn.Start.{Start}
 use Rattle.ns_types.specs.CRun.{World, Outcome, Gave, Over, reach, Run, run_of, c_run}
-use Rattle.v8m_mem.specs.Rows.{memory_of}
+use Rattle.ns_types.specs.Memory.{memory_of}
 use Rattle.constant_entry.specs.Shows.{first_veneer}
 
 -- the one entry stands at the first veneer

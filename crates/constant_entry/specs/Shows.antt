@@ -3,13 +3,13 @@ use Rattle.std.specs.Prelude.{◌≡◌, ℕ, ◌+◌, ◌%◌, eqb, ◌⊎◌, 
 use Rattle.ns_types.specs.declared.event.Event.{Event}
 use Rattle.ns_types.specs.declared.event.Event.TheVariants as event
 use Rattle.ns_types.specs.declared.event.End.TheVariants as end
-use Rattle.ns_types.specs.declared.turn.Turn.{Turn}
+use Rattle.ns_types.specs.Turns.{Turn}
 use Rattle.ns_types.specs.declared.turn.Start.{Start}
 use Rattle.ns_types.specs.declared.turn.View.{View}
 use Rattle.ns_types.specs.Platform.{row, is_nonsecure}
 use Rattle.ns_types.specs.Memory.{word_at}
 use Rattle.ns_types.specs.Boundary.{view, in_four, start_mark, turn_mark}
-use Rattle.v8m_core.specs.Step.{is_gateway}
+use Rattle.ns_types.specs.Gateway.{is_gateway}
 use Rattle.v8m_core.specs.Code.{HasCode}
 use Rattle.ns_turns.specs.Run.{machine_run}
 use Rattle.ns_types.specs.Prefix.{IsFront}

@@ -3,9 +3,9 @@
 ghost use Rattle.std.specs.Prelude.{ℕ, ◌<◌, ◌^◌, List};
 ghost use Rattle.ns_types.specs.declared.event.Bound.{Bound};
 ghost use Rattle.ns_types.specs.declared.turn.Start.{Start};
-ghost use Rattle.ns_types.specs.declared.turn.Turn.{Turn};
+ghost use Rattle.ns_types.specs.Turns.{Turn};
 ghost use Rattle.ns_types.specs.Bounds.{IsWithin, Extends};
-ghost use Rattle.v8m_mem.specs.Rows.{IsStart};
+ghost use Rattle.ns_types.specs.Memory.{IsStart};
 ghost use Rattle.v8m_core.specs.Reset.{reset_of};
 ghost use Rattle.ns_turns.specs.Refines.{Refines, Only, OnlyDeclared};
 ghost use Rattle.ns_turns.specs.Moments.{AllTell, AlwaysKnowsRam};

@@ -1,7 +1,7 @@
 -- What a script says.
 use Rattle.std.specs.Prelude.{◌≡◌, ℕ, ◌+◌, ◌-◌, ◌≤◌, ◌&&◌, ◌||◌, nat_le, ◌==◌, List, [], ◌∷◌, ◌++◌, length, take, drop, slice_index, replicate, codes, bytes_eq, Option, Some, None, Result, Ok, Err, if◌then◌else◌}
 use Rattle.ns_types.specs.declared.turn.Start.{Start}
-use Rattle.ns_types.specs.declared.turn.Turn.{Turn}
+use Rattle.ns_types.specs.Turns.{Turn}
 use Rattle.ns_types.specs.Platform.{row}
 use Rattle.ns_script.specs.declared.line.Line.{Line}
 use Rattle.ns_script.specs.declared.line.Line.TheVariants as line

@@ -4,7 +4,7 @@ use Rattle.std.specs.List.{list_any}
 use Rattle.std.specs.Option.{option_to_list}
 use Rattle.ns_types.specs.declared.turn.Item.{Item}
 use Rattle.ns_types.specs.declared.turn.Item.TheVariants.{Write, Read}
-use Rattle.ns_types.specs.declared.turn.Turn.{Turn}
+use Rattle.ns_types.specs.Turns.{Turn}
 use Rattle.ns_script.specs.declared.turn.Setting.{Setting}
 use Rattle.ns_script.specs.declared.turn.Setting.TheVariants.{Register, Access}
 use Rattle.ns_script.specs.Text.{◌>>=◌, given_if, before, behind, number}

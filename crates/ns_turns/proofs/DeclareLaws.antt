@@ -1,16 +1,17 @@
 -- A machine that shows exactly what a program shows declares what the program declares.
 use Rattle.std.proofs.Common.{ℕ, List, sym, subst, Option}
 use Rattle.ns_types.specs.declared.event.Bound.{Bound}
-use Rattle.ns_types.specs.declared.turn.Turn.{Turn}
+use Rattle.ns_types.specs.Turns.{Turn}
 use Rattle.ns_types.specs.declared.turn.Start.{Start}
 use Rattle.ns_types.specs.CRun.{Run}
 use Rattle.ns_types.specs.Show.{show}
 use Rattle.ns_types.specs.Declares.{Declares}
 use Rattle.ns_types.proofs.ShowLaws.{declares_itself, front_declares}
 use Rattle.ns_turns.specs.Refines.{Only, OnlyDeclared, CallsFew}
+use Rattle.ns_types.specs.State.{Device}
 
-pub declares : (rom : List ℕ) (enters : ℕ → Option ℕ) (run : Start → List Turn → Bound → Run) → Only rom enters run → CallsFew run → OnlyDeclared rom enters run
-declares rom enters run only few start whole ts n =
+pub declares : (device : Device) (enters : ℕ → Option ℕ) (run : Start → List Turn → Bound → Run) → Only device enters run → CallsFew run → OnlyDeclared device enters run
+declares device enters run only few start whole ts n =
     let got = only start whole ts n in
     let b = got.0 in
     let o = got.1 in

@@ -10,7 +10,7 @@ use Rattle.ns_types.specs.declared.event.End.{End}
 use Rattle.ns_types.specs.declared.event.End.TheVariants as end
 use Rattle.ns_types.specs.declared.event.Events.{Events}
 use Rattle.ns_types.specs.declared.event.Bound.{Bound}
-use Rattle.ns_types.specs.declared.turn.Turn.{Turn}
+use Rattle.ns_types.specs.Turns.{Turn}
 use Rattle.ns_types.specs.declared.turn.Start.{Start}
 use Rattle.ns_types.specs.CRun.{Run}
 use Rattle.ns_types.proofs.BoundLaws.{front_trans}
@@ -18,8 +18,11 @@ use Rattle.v8m_core.specs.Reset.{reset_of}
 use Rattle.ns_turns.specs.Run.{machine_run}
 use Rattle.ns_turns.specs.GoesOn.{GoesOn}
 use Rattle.ns_types.specs.Prefix.{IsFront}
-use Rattle.ns_turns.specs.Refines.{seen_of, Same, OutOfRoom, room, Refines, is_clean_event, is_clean, OnlyShows, Only}
+use Rattle.ns_types.specs.SecureRam.{room}
+use Rattle.ns_types.specs.Stops.{is_clean_event, is_clean}
+use Rattle.ns_turns.specs.Refines.{seen_of, Same, OutOfRoom, Refines, OnlyShows, Only}
 use Rattle.ns_turns.proofs.RunLaws.{run_goes}
+use Rattle.ns_types.specs.State.{Device}
 
 -- whether a run is spent
 pub is_spent : (e : End) → (e ≡ end.Spent) ⊎ (e ≢ end.Spent)
@@ -55,23 +58,23 @@ clean_front : (xs ys : List Event) → IsFront xs ys → is_clean ys ≡ true �
 clean_front xs ys f h = clean_append xs f.0 (ap is_clean f.1 ∙ h)
 
 -- one direction gives the other, where the run never stops as only a machine does
-pub only_from_refines : (rom : List ℕ) (enters : ℕ → Option ℕ) (run : Start → List Turn → Bound → Run) → Refines rom enters run → ((start : Start) (ts : List Turn) (b : Bound) → is_clean (seen_of enters (run start ts b)) ≡ true) → Only rom enters run
-only_from_refines rom enters run refines clean start whole ts n = (b, ⊎_elim same_case room_case got.1)
+pub only_from_refines : (device : Device) (enters : ℕ → Option ℕ) (run : Start → List Turn → Bound → Run) → Refines device enters run → ((start : Start) (ts : List Turn) (b : Bound) → is_clean (seen_of enters (run start ts b)) ≡ true) → Only device enters run
+only_from_refines device enters run refines clean start whole ts n = (b, ⊎_elim same_case room_case got.1)
   where
     b : Bound
     b = record { turns = suc n; deep = suc n }
 
-    got : (k : ℕ) × (Same (machine_run rom start ts k) (seen_of enters (run start ts b)) (run start ts b) (min b.turns b.deep) k ⊎ OutOfRoom (machine_run rom start ts k) (seen_of enters (run start ts b)) (run start ts b) room)
+    got : (k : ℕ) × (Same (machine_run device start ts k) (seen_of enters (run start ts b)) (run start ts b) (min b.turns b.deep) k ⊎ OutOfRoom (machine_run device start ts k) (seen_of enters (run start ts b)) (run start ts b) room)
     got = refines start whole ts b
 
     k : ℕ
     k = got.0
 
     mn : Events
-    mn = machine_run rom start ts n
+    mn = machine_run device start ts n
 
     mk : Events
-    mk = machine_run rom start ts k
+    mk = machine_run device start ts k
 
     c : Run
     c = run start ts b
@@ -80,10 +83,10 @@ only_from_refines rom enters run refines clean start whole ts n = (b, ⊎_elim s
     seen = seen_of enters c
 
     sooner : n ≤ k → GoesOn mn mk
-    sooner le = run_goes rom n k ts (reset_of rom start) le
+    sooner le = run_goes device n k ts (reset_of device start) le
 
     later : k ≤ n → GoesOn mk mn
-    later le = run_goes rom k n ts (reset_of rom start) le
+    later le = run_goes device k n ts (reset_of device start) le
 
     Out : Type 0
     Out = OnlyShows mn seen c

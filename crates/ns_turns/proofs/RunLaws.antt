@@ -6,8 +6,8 @@ use Rattle.ns_types.specs.declared.event.End.TheVariants as end
 use Rattle.ns_types.specs.declared.event.Events.{Events}
 use Rattle.ns_types.specs.declared.state.Side.{Side}
 use Rattle.ns_types.specs.declared.state.Side.TheVariants.{Secure, NonSecure, Stopped}
-use Rattle.ns_types.specs.declared.turn.Turn.{Turn}
-use Rattle.ns_types.specs.State.{State}
+use Rattle.ns_types.specs.Turns.{Turn}
+use Rattle.ns_types.specs.State.{Device, State}
 use Rattle.v8m_core.specs.Step.{Done, went, step_of, turn_of}
 use Rattle.v8m_core.specs.Code.{Comes}
 use Rattle.v8m_core.proofs.Runs.{stays}
@@ -16,36 +16,36 @@ use Rattle.ns_types.specs.Prefix.{IsFront}
 use Rattle.ns_turns.specs.GoesOn.{GoesOn}
 
 -- one step in Secure state
-pub run_step : (rom : List ℕ) (n : ℕ) (ts : List Turn) (s : State) (d : Done) → s.cpu.side ≡ Secure → step_of rom s ≡ d → run_of rom (suc n) ts s ≡ after d (run_of rom n ts d.state)
+pub run_step : (device : Device) (n : ℕ) (ts : List Turn) (s : State) (d : Done) → s.cpu.side ≡ Secure → step_of device s ≡ d → run_of device (suc n) ts s ≡ after d (run_of device n ts d.state)
 unfolding run_of
-run_step rom n ts s d side e =
-    ap (λ x. next_of ends (λ t rest. after (turn_of rom t s) (run_of rom n rest (turn_of rom t s).state)) (after (step_of rom s) (run_of rom n ts (step_of rom s).state)) x ts) side
-    ∙ ap (λ (x : Done). after x (run_of rom n ts x.state)) e
+run_step device n ts s d side e =
+    ap (λ x. next_of ends (λ t rest. after (turn_of device t s) (run_of device n rest (turn_of device t s).state)) (after (step_of device s) (run_of device n ts (step_of device s).state)) x ts) side
+    ∙ ap (λ (x : Done). after x (run_of device n ts x.state)) e
 
 -- one turn in Non-secure state
-pub run_turn : (rom : List ℕ) (n : ℕ) (t : Turn) (ts : List Turn) (s : State) (d : Done) → s.cpu.side ≡ NonSecure → turn_of rom t s ≡ d → run_of rom (suc n) (t ∷ ts) s ≡ after d (run_of rom n ts d.state)
+pub run_turn : (device : Device) (n : ℕ) (t : Turn) (ts : List Turn) (s : State) (d : Done) → s.cpu.side ≡ NonSecure → turn_of device t s ≡ d → run_of device (suc n) (t ∷ ts) s ≡ after d (run_of device n ts d.state)
 unfolding run_of
-run_turn rom n t ts s d side e =
-    ap (λ x. next_of ends (λ t rest. after (turn_of rom t s) (run_of rom n rest (turn_of rom t s).state)) (after (step_of rom s) (run_of rom n (t ∷ ts) (step_of rom s).state)) x (t ∷ ts)) side
-    ∙ ap (λ (x : Done). after x (run_of rom n ts x.state)) e
+run_turn device n t ts s d side e =
+    ap (λ x. next_of ends (λ t rest. after (turn_of device t s) (run_of device n rest (turn_of device t s).state)) (after (step_of device s) (run_of device n (t ∷ ts) (step_of device s).state)) x (t ∷ ts)) side
+    ∙ ap (λ (x : Done). after x (run_of device n ts x.state)) e
 
 -- Non-secure state with no turn left
-pub run_waits : (rom : List ℕ) (n : ℕ) (s : State) → s.cpu.side ≡ NonSecure → run_of rom n [] s ≡ ends end.Waiting
+pub run_waits : (device : Device) (n : ℕ) (s : State) → s.cpu.side ≡ NonSecure → run_of device n [] s ≡ ends end.Waiting
 unfolding run_of
-run_waits rom zero s side = ap (λ x. next_of ends (λ t rest. ends end.Spent) (ends end.Spent) x []) side
-run_waits rom (suc n) s side =
-    ap (λ x. next_of ends (λ t rest. after (turn_of rom t s) (run_of rom n rest (turn_of rom t s).state)) (after (step_of rom s) (run_of rom n [] (step_of rom s).state)) x []) side
+run_waits device zero s side = ap (λ x. next_of ends (λ t rest. ends end.Spent) (ends end.Spent) x []) side
+run_waits device (suc n) s side =
+    ap (λ x. next_of ends (λ t rest. after (turn_of device t s) (run_of device n rest (turn_of device t s).state)) (after (step_of device s) (run_of device n [] (step_of device s).state)) x []) side
 
 -- steps that only go on add no event
-pub run_comes : (rom : List ℕ) (k n : ℕ) (ts : List Turn) (s t : State) → s.cpu.side ≡ Secure → Comes rom k s t → run_of rom (k + n) ts s ≡ run_of rom n ts t
-run_comes rom zero n ts s t side c = let e : 0 + n ≡ n = omega arith in ap (λ m. run_of rom m ts s) e ∙ ap (run_of rom n ts) c
-run_comes rom (suc k) n ts s t side c =
+pub run_comes : (device : Device) (k n : ℕ) (ts : List Turn) (s t : State) → s.cpu.side ≡ Secure → Comes device k s t → run_of device (k + n) ts s ≡ run_of device n ts t
+run_comes device zero n ts s t side c = let e : 0 + n ≡ n = omega arith in ap (λ m. run_of device m ts s) e ∙ ap (run_of device n ts) c
+run_comes device (suc k) n ts s t side c =
     let e : suc k + n ≡ suc (k + n) = omega arith in
-    ap (λ m. run_of rom m ts s) e ∙ run_step rom (k + n) ts s (went c.0) side c.1 ∙ run_comes rom k n ts c.0 t (stays rom s c.0 side c.1) c.2
+    ap (λ m. run_of device m ts s) e ∙ run_step device (k + n) ts s (went c.0) side c.1 ∙ run_comes device k n ts c.0 t (stays device s c.0 side c.1) c.2
 
-pub comes_secure : (rom : List ℕ) (k : ℕ) (s t : State) → s.cpu.side ≡ Secure → Comes rom k s t → t.cpu.side ≡ Secure
-comes_secure rom zero s t side c = ap (λ (x : State). x.cpu.side) (sym c) ∙ side
-comes_secure rom (suc k) s t side c = comes_secure rom k c.0 t (stays rom s c.0 side c.1) c.2
+pub comes_secure : (device : Device) (k : ℕ) (s t : State) → s.cpu.side ≡ Secure → Comes device k s t → t.cpu.side ≡ Secure
+comes_secure device zero s t side c = ap (λ (x : State). x.cpu.side) (sym c) ∙ side
+comes_secure device (suc k) s t side c = comes_secure device k c.0 t (stays device s c.0 side c.1) c.2
 
 same_goes : (a : Events) → GoesOn a a
 same_goes a = record { front = ([], append_nil a.list); over = λ ne. refl }
@@ -69,22 +69,22 @@ next_goes p q x y NonSecure [] hp hx = same_goes _
 next_goes p q x y NonSecure (t ∷ ts) hp hx = hp t ts
 next_goes p q x y Secure ts hp hx = hx
 
-pub run_goes : (rom : List ℕ) (n m : ℕ) (ts : List Turn) (s : State) → n ≤ m → GoesOn (run_of rom n ts s) (run_of rom m ts s)
+pub run_goes : (device : Device) (n m : ℕ) (ts : List Turn) (s : State) → n ≤ m → GoesOn (run_of device n ts s) (run_of device m ts s)
 unfolding run_of
-run_goes rom zero zero ts s le = next_goes _ _ _ _ s.cpu.side ts (λ t rest. same_goes _) (same_goes _)
-run_goes rom zero (suc m) ts s le = next_goes _ _ _ _ s.cpu.side ts (λ t rest. spent_goes _) (spent_goes _)
-run_goes rom (suc n) zero ts s le = absurd (omega arith)
-run_goes rom (suc n) (suc m) ts s le =
+run_goes device zero zero ts s le = next_goes _ _ _ _ s.cpu.side ts (λ t rest. same_goes _) (same_goes _)
+run_goes device zero (suc m) ts s le = next_goes _ _ _ _ s.cpu.side ts (λ t rest. spent_goes _) (spent_goes _)
+run_goes device (suc n) zero ts s le = absurd (omega arith)
+run_goes device (suc n) (suc m) ts s le =
     next_goes _ _ _ _ s.cpu.side ts
-    (λ t rest. after_goes (turn_of rom t s) _ _ (run_goes rom n m rest (turn_of rom t s).state (omega arith)))
-    (after_goes (step_of rom s) _ _ (run_goes rom n m ts (step_of rom s).state (omega arith)))
+    (λ t rest. after_goes (turn_of device t s) _ _ (run_goes device n m rest (turn_of device t s).state (omega arith)))
+    (after_goes (step_of device s) _ _ (run_goes device n m ts (step_of device s).state (omega arith)))
 
 -- A whole run that ends says what each number of steps gives.
-pub fronts : (rom : List ℕ) (n k : ℕ) (ts : List Turn) (s : State) (all : Events) → run_of rom k ts s ≡ all → all.end ≢ end.Spent → IsFront (run_of rom n ts s).list all.list
-fronts rom n k ts s all e ne =
+pub fronts : (device : Device) (n k : ℕ) (ts : List Turn) (s : State) (all : Events) → run_of device k ts s ≡ all → all.end ≢ end.Spent → IsFront (run_of device n ts s).list all.list
+fronts device n k ts s all e ne =
     ⊎_elim
-    (λ below. subst (λ (x : Events). IsFront (run_of rom n ts s).list x.list) e (run_goes rom n k ts s (omega arith)).front)
-    (λ above. ([], let same : run_of rom n ts s ≡ all = (run_goes rom k n ts s above).over (λ z. ne (sym (ap (λ (x : Events). x.end) e) ∙ z)) ∙ e in append_nil (run_of rom n ts s).list ∙ ap (λ (x : Events). x.list) same))
+    (λ below. subst (λ (x : Events). IsFront (run_of device n ts s).list x.list) e (run_goes device n k ts s (omega arith)).front)
+    (λ above. ([], let same : run_of device n ts s ≡ all = (run_goes device k n ts s above).over (λ z. ne (sym (ap (λ (x : Events). x.end) e) ∙ z)) ∙ e in append_nil (run_of device n ts s).list ∙ ap (λ (x : Events). x.list) same))
     (cases_lt n k)
   where
     append_nil : (xs : List Event) → xs ++ [] ≡ xs
@@ -92,6 +92,6 @@ fronts rom n k ts s all e ne =
     append_nil (x ∷ xs) = ap (λ l. x ∷ l) (append_nil xs)
 
 -- Secure state with no step left
-pub run_spent : (rom : List ℕ) (ts : List Turn) (s : State) → s.cpu.side ≡ Secure → run_of rom zero ts s ≡ ends end.Spent
+pub run_spent : (device : Device) (ts : List Turn) (s : State) → s.cpu.side ≡ Secure → run_of device zero ts s ≡ ends end.Spent
 unfolding run_of
-run_spent rom ts s side = ap (λ x. next_of ends (λ t rest. ends end.Spent) (ends end.Spent) x ts) side
+run_spent device ts s side = ap (λ x. next_of ends (λ t rest. ends end.Spent) (ends end.Spent) x ts) side

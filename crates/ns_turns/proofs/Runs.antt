@@ -7,48 +7,48 @@ use Rattle.ns_types.specs.declared.event.End.{End}
 use Rattle.ns_types.specs.declared.event.End.TheVariants as end
 use Rattle.ns_types.specs.declared.event.Events.{Events}
 use Rattle.ns_types.specs.declared.state.Side.TheVariants.{Secure, NonSecure, Stopped}
-use Rattle.ns_types.specs.declared.turn.Turn.{Turn}
-use Rattle.ns_types.specs.State.{State}
+use Rattle.ns_types.specs.Turns.{Turn}
+use Rattle.ns_types.specs.State.{Device, State}
 use Rattle.v8m_core.specs.declared.stepped.Stepped.{Stepped}
 use Rattle.v8m_core.specs.Step.{Done, step_of, turn_of}
 use Rattle.ns_turns.specs.Run.{after, ends, next_of, run_of}
 use Rattle.ns_turns.specs.Advance.{Advances, GoesOnTo, behind, then_rest}
 
-pub run_stopped : (rom : List ℕ) (n : ℕ) (ts : List Turn) (s : State) (x : Stop) → s.cpu.side ≡ Stopped x → run_of rom (suc n) ts s ≡ ends end.Stopped
+pub run_stopped : (device : Device) (n : ℕ) (ts : List Turn) (s : State) (x : Stop) → s.cpu.side ≡ Stopped x → run_of device (suc n) ts s ≡ ends end.Stopped
 unfolding run_of
-run_stopped rom n ts s x e = rw e refl
+run_stopped device n ts s x e = rw e refl
 
-pub run_secure : (rom : List ℕ) (n : ℕ) (ts : List Turn) (s : State) (d : Done) → s.cpu.side ≡ Secure → step_of rom s ≡ d → run_of rom (suc n) ts s ≡ after d (run_of rom n ts d.state)
+pub run_secure : (device : Device) (n : ℕ) (ts : List Turn) (s : State) (d : Done) → s.cpu.side ≡ Secure → step_of device s ≡ d → run_of device (suc n) ts s ≡ after d (run_of device n ts d.state)
 unfolding run_of
-run_secure rom n ts s d e step = rw (step, e) refl
+run_secure device n ts s d e step = rw (step, e) refl
 
-pub run_waits : (rom : List ℕ) (n : ℕ) (ts : List Turn) (s : State) → s.cpu.side ≡ NonSecure → ts ≡ [] → run_of rom (suc n) ts s ≡ ends end.Waiting
+pub run_waits : (device : Device) (n : ℕ) (ts : List Turn) (s : State) → s.cpu.side ≡ NonSecure → ts ≡ [] → run_of device (suc n) ts s ≡ ends end.Waiting
 unfolding run_of
-run_waits rom n ts s e none = rw (e, none) refl
+run_waits device n ts s e none = rw (e, none) refl
 
-pub run_turn : (rom : List ℕ) (n : ℕ) (ts rest : List Turn) (t : Turn) (s : State) (d : Done) → s.cpu.side ≡ NonSecure → ts ≡ t ∷ rest → turn_of rom t s ≡ d → run_of rom (suc n) ts s ≡ after d (run_of rom n rest d.state)
+pub run_turn : (device : Device) (n : ℕ) (ts rest : List Turn) (t : Turn) (s : State) (d : Done) → s.cpu.side ≡ NonSecure → ts ≡ t ∷ rest → turn_of device t s ≡ d → run_of device (suc n) ts s ≡ after d (run_of device n rest d.state)
 unfolding run_of
-run_turn rom n ts rest t s d e more turn =
-    let play = λ (u : Turn) (us : List Turn). after (turn_of rom u s) (run_of rom n us (turn_of rom u s).state) in
-    let step = after (step_of rom s) (run_of rom n ts (step_of rom s).state) in
-    ap (λ x. next_of ends play step x ts) e ∙ ap (λ us. next_of ends play step NonSecure us) more ∙ ap (λ x. after x (run_of rom n rest x.state)) turn
+run_turn device n ts rest t s d e more turn =
+    let play = λ (u : Turn) (us : List Turn). after (turn_of device u s) (run_of device n us (turn_of device u s).state) in
+    let step = after (step_of device s) (run_of device n ts (step_of device s).state) in
+    ap (λ x. next_of ends play step x ts) e ∙ ap (λ us. next_of ends play step NonSecure us) more ∙ ap (λ x. after x (run_of device n rest x.state)) turn
 
-pub spent_turn : (rom : List ℕ) (ts : List Turn) (s : State) → s.cpu.side ≡ NonSecure → 0 < length ts → ends end.Spent ≡ run_of rom 0 ts s
+pub spent_turn : (device : Device) (ts : List Turn) (s : State) → s.cpu.side ≡ NonSecure → 0 < length ts → ends end.Spent ≡ run_of device 0 ts s
 unfolding run_of
-spent_turn rom [] s e lt = absurd (omega arith)
-spent_turn rom (t ∷ ts) s e lt = rw e refl
+spent_turn device [] s e lt = absurd (omega arith)
+spent_turn device (t ∷ ts) s e lt = rw e refl
 
 -- a run that ends before a step
 pub behind_end : (list : List Event) (e : End) → record { list = list; end = e } ≡ behind list (ends e)
 behind_end list e = ap (λ l. record { list = l; end = e }) (sym (append-nil list))
 
 -- a run that goes on behind events: k steps that make none, and one step more
-pub run_more : (rom rom' rom2 : List ℕ) (left k : ℕ) (ts ts' : List Turn) (s t s' : State) (list : List Event) (r : Result Stepped End) (whole : Events) → k < left → rom' ≡ rom → rom2 ≡ rom' → whole ≡ behind list (run_of rom left ts s) → GoesOnTo rom' k s t → Advances rom2 ts t r ts' s' → whole ≡ behind list (then_rest r (run_of rom (left - k - 1) ts' s'))
-run_more rom rom' rom2 left k ts ts' s t s' list r whole lt same same2 so_far on step =
+pub run_more : (device rom' rom2 : List ℕ) (left k : ℕ) (ts ts' : List Turn) (s t s' : State) (list : List Event) (r : Result Stepped End) (whole : Events) → k < left → rom' ≡ device → rom2 ≡ rom' → whole ≡ behind list (run_of device left ts s) → GoesOnTo rom' k s t → Advances rom2 ts t r ts' s' → whole ≡ behind list (then_rest r (run_of device (left - k - 1) ts' s'))
+run_more device rom' rom2 left k ts ts' s t s' list r whole lt same same2 so_far on step =
     let m = left - k - 1 in
     let count : left ≡ k + suc m = omega arith in
     so_far
-    ∙ ap (λ i. behind list (run_of rom i ts s)) count
+    ∙ ap (λ i. behind list (run_of device i ts s)) count
     ∙ ap (λ x. behind list (run_of x (k + suc m) ts s)) (sym same)
     ∙ ap (behind list) (on (suc m) ts)
     ∙ ap (λ x. behind list (run_of x (suc m) ts t)) (sym same2)

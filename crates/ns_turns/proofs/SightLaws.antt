@@ -9,28 +9,29 @@ use Rattle.ns_types.specs.declared.event.Event.TheVariants as event
 use Rattle.ns_types.specs.declared.event.End.TheVariants as end
 use Rattle.ns_types.specs.declared.event.Events.{Events}
 use Rattle.ns_types.specs.declared.event.Bound.{Bound}
-use Rattle.ns_types.specs.declared.turn.Turn.{Turn}
+use Rattle.ns_types.specs.Turns.{Turn}
 use Rattle.ns_types.specs.declared.turn.Start.{Start}
 use Rattle.ns_types.specs.declared.turn.View.{View}
 use Rattle.ns_types.specs.Platform.{row}
-use Rattle.ns_types.specs.Memory.{put_number}
+use Rattle.ns_types.specs.Memory.{put_number, IsStart}
 use Rattle.ns_types.specs.Prefix.{IsFront}
 use Rattle.ns_types.specs.CRun.{Run}
 use Rattle.ns_types.specs.Show.{show, events_shown}
-use Rattle.ns_types.specs.Ram.{crossed, ram_at}
+use Rattle.ns_types.specs.Ram.{moved_past, ram_at}
 use Rattle.ns_types.specs.Sight.{view_at, given_count}
 use Rattle.ns_types.specs.Marks.{first_tracker, IsTold}
 use Rattle.ns_types.proofs.ShowLaws.{shown_front}
 use Rattle.ns_types.proofs.MarkLaws.{same_shown}
 use Rattle.ns_types.proofs.BoundLaws.{front_trans}
-use Rattle.v8m_mem.specs.Rows.{IsStart}
 use Rattle.v8m_core.specs.Reset.{reset_of}
 use Rattle.ns_turns.specs.Run.{machine_run}
 use Rattle.ns_turns.specs.GoesOn.{GoesOn}
-use Rattle.ns_turns.specs.Refines.{seen_of, Same, OutOfRoom, room, Refines}
+use Rattle.ns_types.specs.SecureRam.{room}
+use Rattle.ns_turns.specs.Refines.{seen_of, Same, OutOfRoom, Refines}
 use Rattle.ns_turns.specs.TwoWorlds.{hand_overs, TwoWorlds, TellsAll}
 use Rattle.ns_turns.proofs.RunLaws.{run_goes}
 use Rattle.ns_turns.proofs.OnlyLaws.{front_or_all}
+use Rattle.ns_types.specs.State.{Device}
 
 view_append : (xs ys : List Event) (k : ℕ) → k < given_count xs → view_at (xs ++ ys) k ≡ view_at xs k
 view_append [] ys k lt = absurd (omega arith)
@@ -45,7 +46,7 @@ ram_append enters (event.Wrote a n v ∷ xs) ys k ts ram lt = ram_append enters 
 ram_append enters (event.Stopped x ∷ xs) ys k ts ram lt = ram_append enters xs ys k ts ram lt
 ram_append enters (event.Given view ∷ xs) ys zero ts ram lt = refl
 ram_append enters (event.Given view ∷ xs) ys (suc k) ts ram lt =
-    let m = crossed enters ts ram in ram_append enters xs ys k m.turns m.ram (omega arith)
+    let m = moved_past enters ts ram in ram_append enters xs ys k m.turns m.ram (omega arith)
 
 counted : (xs : List Event) (k : ℕ) (v : View) → view_at xs k ≡ Some v → k < given_count xs
 counted [] k v e = absurd (cc)
@@ -73,7 +74,7 @@ ram_stop enters (event.Wrote a n v ∷ xs) x k ts ram = ram_stop enters xs x k t
 ram_stop enters (event.Stopped y ∷ xs) x k ts ram = ram_stop enters xs x k ts ram
 ram_stop enters (event.Given view ∷ xs) x zero ts ram = refl
 ram_stop enters (event.Given view ∷ xs) x (suc k) ts ram =
-    let m = crossed enters ts ram in ram_stop enters xs x k m.turns m.ram
+    let m = moved_past enters ts ram in ram_stop enters xs x k m.turns m.ram
 
 -- A hand-over of xs is one of ys, with the same memory.
 record Agrees (enters : ℕ → Option ℕ) (xs ys : List Event) (k : ℕ) (v : View) : Type 0 where
@@ -100,8 +101,8 @@ agrees_stop enters xs before ys x k v is f e =
     record { view = a.view; ram = λ ts r. ap (λ l. ram_at enters l k ts r) is ∙ ram_stop enters before x k ts r ∙ a.ram ts r }
 
 -- What the machine shows at a hand-over that the program shows too is what the program shows there.
-agrees : (rom : List ℕ) (enters : ℕ → Option ℕ) (run : Start → List Turn → Bound → Run) → Refines rom enters run → (start : Start) → IsStart start → (ts : List Turn) (b : Bound) (n k : ℕ) (v : View) → k < given_count (seen_of enters (run start ts b)) → view_at (machine_run rom start ts n).list k ≡ Some v → Agrees enters (machine_run rom start ts n).list (seen_of enters (run start ts b)) k v
-agrees rom enters run refines start whole ts b n k v lt e = ⊎_elim same_case room_case got.1
+agrees : (device : Device) (enters : ℕ → Option ℕ) (run : Start → List Turn → Bound → Run) → Refines device enters run → (start : Start) → IsStart start → (ts : List Turn) (b : Bound) (n k : ℕ) (v : View) → k < given_count (seen_of enters (run start ts b)) → view_at (machine_run device start ts n).list k ≡ Some v → Agrees enters (machine_run device start ts n).list (seen_of enters (run start ts b)) k v
+agrees device enters run refines start whole ts b n k v lt e = ⊎_elim same_case room_case got.1
   where
     c : Run
     c = run start ts b
@@ -109,23 +110,23 @@ agrees rom enters run refines start whole ts b n k v lt e = ⊎_elim same_case r
     seen : List Event
     seen = seen_of enters c
 
-    got : (i : ℕ) × (Same (machine_run rom start ts i) seen c (min b.turns b.deep) i ⊎ OutOfRoom (machine_run rom start ts i) seen c room)
+    got : (i : ℕ) × (Same (machine_run device start ts i) seen c (min b.turns b.deep) i ⊎ OutOfRoom (machine_run device start ts i) seen c room)
     got = refines start whole ts b
 
     i : ℕ
     i = got.0
 
     mn : Events
-    mn = machine_run rom start ts n
+    mn = machine_run device start ts n
 
     mi : Events
-    mi = machine_run rom start ts i
+    mi = machine_run device start ts i
 
     sooner : n ≤ i → GoesOn mn mi
-    sooner le = run_goes rom n i ts (reset_of rom start) le
+    sooner le = run_goes device n i ts (reset_of device start) le
 
     later : i ≤ n → GoesOn mi mn
-    later le = run_goes rom i n ts (reset_of rom start) le
+    later le = run_goes device i n ts (reset_of device start) le
 
     same_case : Same mi seen c (min b.turns b.deep) i → Agrees enters mn.list seen k v
     same_case s =
@@ -149,26 +150,26 @@ agrees rom enters run refines start whole ts b n k v lt e = ⊎_elim same_case r
         (cases_lt i n)
 
 -- the same against the first m events of the program
-agrees_first : (rom : List ℕ) (enters : ℕ → Option ℕ) (run : Start → List Turn → Bound → Run) → Refines rom enters run → (start : Start) → IsStart start → (ts : List Turn) (b : Bound) (m n k : ℕ) (v : View) → k < hand_overs enters m (run start ts b) → view_at (machine_run rom start ts n).list k ≡ Some v → Agrees enters (machine_run rom start ts n).list (events_shown (show enters (take m (run start ts b).list))) k v
-agrees_first rom enters run refines start whole ts b m n k v lt e =
+agrees_first : (device : Device) (enters : ℕ → Option ℕ) (run : Start → List Turn → Bound → Run) → Refines device enters run → (start : Start) → IsStart start → (ts : List Turn) (b : Bound) (m n k : ℕ) (v : View) → k < hand_overs enters m (run start ts b) → view_at (machine_run device start ts n).list k ≡ Some v → Agrees enters (machine_run device start ts n).list (events_shown (show enters (take m (run start ts b).list))) k v
+agrees_first device enters run refines start whole ts b m n k v lt e =
     let list = (run start ts b).list in
     let first = events_shown (show enters (take m list)) in
     let seen = events_shown (show enters list) in
     let f = shown_front enters m list in
     let more : given_count first ≤ given_count seen = subst (λ l. given_count first ≤ given_count l) f.1 (count_append first f.0) in
-    let a = agrees rom enters run refines start whole ts b n k v (omega arith) e in
+    let a = agrees device enters run refines start whole ts b n k v (omega arith) e in
     let z = agrees_back enters seen first k v f lt a.view in
     record { view = z.view; ram = λ us r. a.ram us r ∙ z.ram us r }
 
-pub two_worlds : (rom : List ℕ) (enters : ℕ → Option ℕ) (run : Start → List Turn → Bound → Run) → Refines rom enters run → TellsAll enters run → TwoWorlds rom enters run
-two_worlds rom enters run refines tells a b whole whole' outside ts c d m same i j k lt v w p q =
+pub two_worlds : (device : Device) (enters : ℕ → Option ℕ) (run : Start → List Turn → Bound → Run) → Refines device enters run → TellsAll enters run → TwoWorlds device enters run
+two_worlds device enters run refines tells a b whole whole' outside ts c d m same i j k lt v w p q =
     let l = (run a ts c).list in
     let l' = (run b ts d).list in
     let first : first_tracker b ts ≡ first_tracker a ts = tracker_by (sym outside.ns_rom) in
     let shows : show enters (take m l) ≡ show enters (take m l') = same_shown enters (first_tracker a ts) l l' m (tells a ts c) (subst (λ t. IsTold enters t l') first (tells b ts d)) same in
     let equal : events_shown (show enters (take m l)) ≡ events_shown (show enters (take m l')) = ap events_shown shows in
-    let x = agrees_first rom enters run refines a whole ts c m i k v lt p in
-    let y = agrees_first rom enters run refines b whole' ts d m j k w (subst (λ z. k < given_count z) equal lt) q in
+    let x = agrees_first device enters run refines a whole ts c m i k v lt p in
+    let y = agrees_first device enters run refines b whole' ts d m j k w (subst (λ z. k < given_count z) equal lt) q in
     let views : Some v ≡ Some w = sym x.view ∙ ap (λ z. view_at z k) equal ∙ y.view in
     (cc, x.ram ts a.ns_ram ∙ ap (λ z. ram_at enters z k ts a.ns_ram) equal ∙ ap (λ r. ram_at enters (events_shown (show enters (take m l'))) k ts r) outside.ns_ram ∙ sym (y.ram ts b.ns_ram))
   where

@@ -10,7 +10,7 @@ use Rattle.ns_types.specs.declared.state.Cpu.{Cpu}
 use Rattle.ns_types.specs.declared.state.Regs.{Regs}
 use Rattle.ns_types.specs.declared.state.Side.TheVariants.{Secure, NonSecure, Stopped}
 use Rattle.ns_types.specs.declared.turn.View.{View}
-use Rattle.ns_types.specs.State.{get_of, Memory, State}
+use Rattle.ns_types.specs.State.{Device, get_of, Memory, State}
 use Rattle.ns_types.specs.Platform.{row, in_row, is_in_rom, aligned}
 use Rattle.ns_types.specs.Memory.{put_number, store}
 use Rattle.ns_types.specs.Boundary.{function_return}
@@ -20,7 +20,8 @@ use Rattle.v8m_core.specs.declared.effect.Effect.{Effect}
 use Rattle.v8m_core.specs.declared.effect.Effect.TheVariants as effect
 use Rattle.v8m_core.specs.Values.{difference32}
 use Rattle.v8m_core.specs.Lists.{registers, in_list, next, all_stored}
-use Rattle.v8m_core.specs.Step.{Done, went, stopped, unless, fetched, goes_in, seen, arrived, return_stop, return_to, bx, bxns, limit_stop, link, call_stop, called, only_stopped_by, blxns, effect_of, put, write_register, load_stop, store_stop, pushed_sp, push_stop, pop_stop, pushed, popped, apply, act_or, step_of}
+use Rattle.ns_types.specs.Gateway.{fetched}
+use Rattle.v8m_core.specs.Step.{Done, went, stopped, unless, goes_in, seen, arrived, return_stop, return_to, bx, bxns, limit_stop, link, call_stop, called, only_stopped_by, blxns, effect_of, put, write_register, load_stop, store_stop, pushed_sp, push_stop, pop_stop, pushed, popped, apply, act_or, step_of}
 use Rattle.ns_turns.specs.Moments.{is_write, Tells, none_in_ram, stacks_outside, outside_or, instr_at, StacksOutside}
 
 -- after a step from s to t
@@ -57,16 +58,16 @@ module _ (b : Bool) (s : State) where
   told_cond true d e p q = p
   told_cond false d e p q = q
 
-  told_return : (rom : List ℕ) (t : State) → Keeps t → Told b s (return_to rom t)
+  told_return : (device : Device) (t : State) → Keeps t → Told b s (return_to device t)
   unfolding return_to
-  told_return rom t same = told_unless (return_stop rom t) t _ same (told_went _ same)
+  told_return device t same = told_unless (return_stop device t) t _ same (told_went _ same)
 
-  told_arrived : (rom : List ℕ) (g : Goes) (a : ℕ) (view : View) (t : State) → Keeps t → Told b s (arrived rom g a (what.Given view) t)
-  told_arrived rom (goes.Enter e) a view t same = told_went _ same
-  told_arrived rom goes.Return a view t same = told_return rom t same
-  told_arrived rom goes.Turn a view t same = record { leads = refl; stays = λ o e. same o }
-  told_arrived rom goes.EntryPoint a view t same = told_stopped stop.EntryPoint t same
-  told_arrived rom goes.Astray a view t same = told_stopped stop.Astray t same
+  told_arrived : (device : Device) (g : Goes) (a : ℕ) (view : View) (t : State) → Keeps t → Told b s (arrived device g a (what.Given view) t)
+  told_arrived device (goes.Enter e) a view t same = told_went _ same
+  told_arrived device goes.Return a view t same = told_return device t same
+  told_arrived device goes.Turn a view t same = record { leads = refl; stays = λ o e. same o }
+  told_arrived device goes.EntryPoint a view t same = told_stopped stop.EntryPoint t same
+  told_arrived device goes.Astray a view t same = told_stopped stop.Astray t same
 
   told_only : (w : Stepped) (d : Done) → Told b s d → Told b s (only_stopped_by w s d)
   told_only what.Went d h = h
@@ -78,17 +79,17 @@ module _ (b : Bool) (s : State) where
   told_stored true t u a n v side wrote same = record { leads = (side, wrote); stays = λ o e. cc }
   told_stored false t u a n v side wrote same = record { leads = tt; stays = λ o e. same }
 
-  told_bxns : (rom : List ℕ) (v : ℕ) → Told b s (bxns rom v s)
+  told_bxns : (device : Device) (v : ℕ) → Told b s (bxns device v s)
   unfolding bxns
-  told_bxns rom v =
-      told_cond (eqb (aligned 2 v) function_return) _ _ (told_return rom s (λ o. refl))
-      (told_cond (eqb (v % 2) 0) _ _ (told_arrived rom (goes_in rom v) v (seen s.cpu v) s (λ o. refl))
+  told_bxns device v =
+      told_cond (eqb (aligned 2 v) function_return) _ _ (told_return device s (λ o. refl))
+      (told_cond (eqb (v % 2) 0) _ _ (told_arrived device (goes_in device v) v (seen s.cpu v) s (λ o. refl))
       (told_cond (is_in_rom (v - 1)) _ _ (told_went (record s { cpu = record s.cpu { pc = v - 1 } }) (λ o. refl)) (told_stopped stop.BadState s (λ o. refl))))
 
-  told_bx : (rom : List ℕ) (v : ℕ) → Told b s (bx rom v s)
+  told_bx : (device : Device) (v : ℕ) → Told b s (bx device v s)
   unfolding bx
-  told_bx rom v =
-      told_cond (eqb (aligned 2 v) function_return) _ _ (told_return rom s (λ o. refl))
+  told_bx device v =
+      told_cond (eqb (aligned 2 v) function_return) _ _ (told_return device s (λ o. refl))
       (told_cond (not (eqb (v % 2) 0) && is_in_rom (v - 1)) _ _ (told_went (record s { cpu = record s.cpu { pc = v - 1 } }) (λ o. refl)) (told_stopped stop.BadState s (λ o. refl)))
 
 -- words that are stacked outside
@@ -115,60 +116,60 @@ all_outside list (n ∷ ns) r a m h = by (in_list list n) (all_outside list ns r
     by true rest q = let p = and_parts (not (in_row 1 a)) (none_in_ram list ns (next a)) q in rest (next a) (store 4 a (get_of r n) m) p.1 ∙ store_outside 4 a (get_of r n) m p.0
     by false rest q = rest a m q
 
-told_blxns : (rom : List ℕ) (v size : ℕ) (s : State) → Told (stacks_outside (effect.Blxns v) s.cpu) s (blxns rom v size s)
+told_blxns : (device : Device) (v size : ℕ) (s : State) → Told (stacks_outside (effect.Blxns v) s.cpu) s (blxns device v size s)
 unfolding blxns
-told_blxns rom v size s =
+told_blxns device v size s =
     let sp = difference32 s.cpu.regs.sp 8 in
     let b = not (in_row 1 sp) && not (in_row 1 (next sp)) in
     let t = called (link size s.cpu) s in
     let same : Keeps b s t = λ o. let p = and_parts (not (in_row 1 sp)) (not (in_row 1 (next sp))) o in store_outside 4 (next sp) 0 (store 4 sp (link size s.cpu) s.memory) p.1 ∙ store_outside 4 sp (link size s.cpu) s.memory p.0 in
     told_pick (eqb (v % 2) 0) b true s _ _
-    (told_unless b s (call_stop s.cpu) s _ (λ o. refl) (told_only b s _ _ (told_arrived b s rom (goes_in rom v) v (seen t.cpu v) t same)))
+    (told_unless b s (call_stop s.cpu) s _ (λ o. refl) (told_only b s _ _ (told_arrived b s device (goes_in device v) v (seen t.cpu v) t same)))
     (told_cond true s (is_in_rom (v - 1)) _ _ (told_went true s (record s { cpu = record s.cpu { regs = record s.cpu.regs { lr = link size s.cpu }; pc = v - 1 } }) (λ o. refl)) (told_stopped true s stop.BadState s (λ o. refl)))
 
-pub told_apply : (rom : List ℕ) (e : Effect) (size : ℕ) (s : State) → s.cpu.side ≡ Secure → Told (stacks_outside e s.cpu) s (apply rom e size s)
+pub told_apply : (device : Device) (e : Effect) (size : ℕ) (s : State) → s.cpu.side ≡ Secure → Told (stacks_outside e s.cpu) s (apply device e size s)
 unfolding apply write_register store pushed popped
-told_apply rom effect.Pass size s h = told_went true s _ (λ o. refl)
-told_apply rom (effect.Stop x) size s h = told_stopped true s x s (λ o. refl)
-told_apply rom (effect.Put d v) size s h =
+told_apply device effect.Pass size s h = told_went true s _ (λ o. refl)
+told_apply device (effect.Stop x) size s h = told_stopped true s x s (λ o. refl)
+told_apply device (effect.Put d v) size s h =
     told_cond true s (eqb d 13) _ _ (told_unless true s (limit_stop v s.cpu) s _ (λ o. refl) (told_went true s (put size 13 (aligned 4 v) s) (λ o. refl))) (told_went true s (put size d v s) (λ o. refl))
-told_apply rom (effect.Load t a n) size s h = told_unless true s (load_stop a n) s _ (λ o. refl) (told_went true s _ (λ o. refl))
-told_apply rom (effect.LoadSigned t a n) size s h = told_unless true s (load_stop a n) s _ (λ o. refl) (told_went true s _ (λ o. refl))
-told_apply rom (effect.Store a n v) size s h =
+told_apply device (effect.Load t a n) size s h = told_unless true s (load_stop a n) s _ (λ o. refl) (told_went true s _ (λ o. refl))
+told_apply device (effect.LoadSigned t a n) size s h = told_unless true s (load_stop a n) s _ (λ o. refl) (told_went true s _ (λ o. refl))
+told_apply device (effect.Store a n v) size s h =
     let m = s.memory in
     let next = record s.cpu { pc = s.cpu.pc + size } in
     let seen_there : State = record { cpu = next; memory = record m { ns_ram = put_number n m.ns_ram (a - (row 1).from) v } } in
     let unseen : State = record { cpu = next; memory = record m { secure_ram = put_number n m.secure_ram (a - (row 4).from) v } } in
     told_unless true s (store_stop a n) s _ (λ o. refl) (told_stored true s (in_row 1 a) seen_there unseen a n v h refl refl)
-told_apply rom (effect.Push list) size s h =
+told_apply device (effect.Push list) size s h =
     told_unless _ s (push_stop list s.cpu) s _ (λ o. refl) (told_went _ s _ (λ o. all_outside list registers s.cpu.regs (pushed_sp list s.cpu) s.memory o))
-told_apply rom (effect.Pop list) size s h = told_unless true s (pop_stop list s.cpu) s _ (λ o. refl) (told_went true s _ (λ o. refl))
-told_apply rom (effect.Flags flags) size s h = told_went true s _ (λ o. refl)
-told_apply rom (effect.Jump a) size s h = told_went true s _ (λ o. refl)
-told_apply rom (effect.Call a) size s h = told_went true s _ (λ o. refl)
-told_apply rom (effect.Special k v) size s h = told_went true s _ (λ o. refl)
-told_apply rom (effect.Bx v) size s h = told_bx true s rom v
-told_apply rom (effect.Bxns v) size s h = told_bxns true s rom v
-told_apply rom (effect.Blxns v) size s h = told_blxns rom v size s
+told_apply device (effect.Pop list) size s h = told_unless true s (pop_stop list s.cpu) s _ (λ o. refl) (told_went true s _ (λ o. refl))
+told_apply device (effect.Flags flags) size s h = told_went true s _ (λ o. refl)
+told_apply device (effect.Jump a) size s h = told_went true s _ (λ o. refl)
+told_apply device (effect.Call a) size s h = told_went true s _ (λ o. refl)
+told_apply device (effect.Special k v) size s h = told_went true s _ (λ o. refl)
+told_apply device (effect.Bx v) size s h = told_bx true s device v
+told_apply device (effect.Bxns v) size s h = told_bxns true s device v
+told_apply device (effect.Blxns v) size s h = told_blxns device v size s
 
-told_act : (rom : List ℕ) (o : Option Decoded) (s : State) → s.cpu.side ≡ Secure → Told (outside_or o s.cpu) s (act_or rom o s)
-told_act rom None s h = told_stopped true s stop.Undefined s (λ o. refl)
-told_act rom (Some d) s h = told_apply rom (effect_of d.instr s.cpu) d.size s h
+told_act : (device : Device) (o : Option Decoded) (s : State) → s.cpu.side ≡ Secure → Told (outside_or o s.cpu) s (act_or device o s)
+told_act device None s h = told_stopped true s stop.Undefined s (λ o. refl)
+told_act device (Some d) s h = told_apply device (effect_of d.instr s.cpu) d.size s h
 
 told_fetched : (x y : Bool) (p q : Option Decoded) (c : Cpu) (s : State) (d e : Done) → Told (outside_or p c) s d → Told (outside_or q c) s e → Told (outside_or (cond x p q) c) s (cond x d (cond y e (stopped stop.BadState s)))
 told_fetched true y p q c s d e h k = h
 told_fetched false true p q c s d e h k = k
 told_fetched false false p q c s d e h k = told_stopped (outside_or q c) s stop.BadState s (λ o. refl)
 
-pub told : (rom : List ℕ) (s : State) → s.cpu.side ≡ Secure → Told (outside_or (instr_at rom s) s.cpu) s (step_of rom s)
+pub told : (device : Device) (s : State) → s.cpu.side ≡ Secure → Told (outside_or (instr_at device s) s.cpu) s (step_of device s)
 unfolding step_of
-told rom s h =
+told device s h =
     let pc = s.cpu.pc in
-    told_cond (outside_or (instr_at rom s) s.cpu) s (is_in_rom pc) _ _
-    (told_fetched (is_narrow (fetched rom pc)) (is_in_rom (pc + 2)) (decode_of (fetched rom pc) 0) (decode_of (fetched rom pc) (fetched rom (pc + 2))) s.cpu s _ _
-    (told_act rom (decode_of (fetched rom pc) 0) s h)
-    (told_act rom (decode_of (fetched rom pc) (fetched rom (pc + 2))) s h))
-    (told_stopped (outside_or (instr_at rom s) s.cpu) s stop.BadState s (λ o. refl))
+    told_cond (outside_or (instr_at device s) s.cpu) s (is_in_rom pc) _ _
+    (told_fetched (is_narrow (fetched device pc)) (is_in_rom (pc + 2)) (decode_of (fetched device pc) 0) (decode_of (fetched device pc) (fetched device (pc + 2))) s.cpu s _ _
+    (told_act device (decode_of (fetched device pc) 0) s h)
+    (told_act device (decode_of (fetched device pc) (fetched device (pc + 2))) s h))
+    (told_stopped (outside_or (instr_at device s) s.cpu) s stop.BadState s (λ o. refl))
 
-pub tells : (rom : List ℕ) (s : State) → s.cpu.side ≡ Secure → StacksOutside rom s → Tells rom s
-tells rom s h outside = (told rom s h).stays outside
+pub tells : (device : Device) (s : State) → s.cpu.side ≡ Secure → StacksOutside device s → Tells device s
+tells device s h outside = (told device s h).stays outside

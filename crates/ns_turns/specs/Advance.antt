@@ -3,8 +3,8 @@ use Rattle.std.specs.Prelude.{◌≡◌, ℕ, suc, ◌+◌, ◌++◌, List, Resu
 use Rattle.ns_types.specs.declared.event.Event.{Event}
 use Rattle.ns_types.specs.declared.event.End.{End}
 use Rattle.ns_types.specs.declared.event.Events.{Events}
-use Rattle.ns_types.specs.declared.turn.Turn.{Turn}
-use Rattle.ns_types.specs.State.{State}
+use Rattle.ns_types.specs.Turns.{Turn}
+use Rattle.ns_types.specs.State.{Device, State}
 use Rattle.v8m_core.specs.declared.stepped.Stepped.{Stepped}
 use Rattle.ns_turns.specs.Run.{ends, event_of, run_of}
 
@@ -18,9 +18,9 @@ then_rest (Ok what) rest = behind (event_of what) rest
 then_rest (Err e) rest = ends e
 
 -- a step leads from a state with turns to another one, or the run ends before it
-abbrev pub Advances : List ℕ → List Turn → State → Result Stepped End → List Turn → State → Type 0
-Advances rom ts s r ts' s' = (n : ℕ) → run_of rom (suc n) ts s ≡ then_rest r (run_of rom n ts' s')
+abbrev pub Advances : Device → List Turn → State → Result Stepped End → List Turn → State → Type 0
+Advances device ts s r ts' s' = (n : ℕ) → run_of device (suc n) ts s ≡ then_rest r (run_of device n ts' s')
 
 -- k steps that make no event lead from a state to another one
-abbrev pub GoesOnTo : List ℕ → ℕ → State → State → Type 0
-GoesOnTo rom k s t = (n : ℕ) (ts : List Turn) → run_of rom (k + n) ts s ≡ run_of rom n ts t
+abbrev pub GoesOnTo : Device → ℕ → State → State → Type 0
+GoesOnTo device k s t = (n : ℕ) (ts : List Turn) → run_of device (k + n) ts s ≡ run_of device n ts t

@@ -7,14 +7,17 @@ use Rattle.ns_types.specs.declared.event.Event.TheVariants as event
 use Rattle.ns_types.specs.declared.event.End.TheVariants as end
 use Rattle.ns_types.specs.declared.event.Events.{Events}
 use Rattle.ns_types.specs.declared.event.Bound.{Bound}
-use Rattle.ns_types.specs.declared.turn.Turn.{Turn}
+use Rattle.ns_types.specs.Turns.{Turn, AreTurns}
 use Rattle.ns_types.specs.declared.turn.Start.{Start}
 use Rattle.ns_types.specs.CRun.{Run}
 use Rattle.ns_types.specs.Show.{Shown, show, events_shown}
 use Rattle.ns_types.specs.Declares.{Declares, AllHaveFewArguments, DeclaresFront}
-use Rattle.v8m_mem.specs.Rows.{IsStart}
+use Rattle.ns_types.specs.Memory.{IsStart}
 use Rattle.ns_turns.specs.Run.{machine_run}
 use Rattle.ns_types.specs.Prefix.{IsFront}
+use Rattle.ns_types.specs.State.{Device}
+use Rattle.ns_types.specs.SecureRam.{room}
+use Rattle.ns_types.specs.Stops.{is_clean}
 
 -- what the caller sees of a run
 abbrev pub seen_of : (ℕ → Option ℕ) → Run → List Event
@@ -35,42 +38,11 @@ pub record OutOfRoom (m : Events) (seen : List Event) (run : Run) (room : ℕ) :
   pub end : m.end ≡ end.Stopped
   pub need : room < run.peak
 
--- the bytes of the main stack below its seal
-abbrev pub room : ℕ
-room = 32760
-
 -- For every start, list of turns and bound there is a number of steps after which the machine has shown what the run
 -- shows, or is out of room.
-abbrev pub Refines : List ℕ → (ℕ → Option ℕ) → (Start → List Turn → Bound → Run) → Type 0
-Refines rom enters run =
-    (start : Start) → IsStart start → (ts : List Turn) (b : Bound) → (n : ℕ) × (Same (machine_run rom start ts n) (seen_of enters (run start ts b)) (run start ts b) (min b.turns b.deep) n ⊎ OutOfRoom (machine_run rom start ts n) (seen_of enters (run start ts b)) (run start ts b) room)
-
--- the stops that only a machine has
-abbrev pub is_machine_stop : Stop → Bool
-is_machine_stop StackLimit = true
-is_machine_stop Undefined = true
-is_machine_stop Unaligned = true
-is_machine_stop Unmapped = true
-is_machine_stop BadState = true
-is_machine_stop Divide = false
-is_machine_stop Outside = false
-is_machine_stop Misaligned = false
-is_machine_stop DataStack = false
-is_machine_stop CallTarget = false
-is_machine_stop EntryPoint = false
-is_machine_stop Access = false
-is_machine_stop ReturnFault = false
-is_machine_stop Astray = false
-
-abbrev pub is_clean_event : Event → Bool
-is_clean_event (event.Given v) = true
-is_clean_event (event.Wrote at size value) = true
-is_clean_event (event.Stopped x) = not (is_machine_stop x)
-
--- no stop that only a machine has
-abbrev pub is_clean : List Event → Bool
-is_clean [] = true
-is_clean (e ∷ es) = is_clean_event e && is_clean es
+abbrev pub Refines : Device → (ℕ → Option ℕ) → (Start → List Turn → Bound → Run) → Type 0
+Refines device enters run =
+    (start : Start) → IsStart start → (ts : List Turn) → AreTurns ts → (b : Bound) → (n : ℕ) × (Same (machine_run device start ts n) (seen_of enters (run start ts b)) (run start ts b) (min b.turns b.deep) n ⊎ OutOfRoom (machine_run device start ts n) (seen_of enters (run start ts b)) (run start ts b) room)
 
 -- What the machine has shown after some steps is a front of what the run shows, without a stop of its own but a last
 -- one for want of stack, where the run needs more than there is. Where the machine waits, so does the run.
@@ -82,9 +54,9 @@ pub record OnlyShows (m : Events) (seen : List Event) (run : Run) : Type 0 where
   pub waits : m.end ≡ end.Waiting → (run.end ≡ end.Waiting) × (m.list ≡ seen)
 
 -- For every start, list of turns and number of steps there is such a bound.
-abbrev pub Only : List ℕ → (ℕ → Option ℕ) → (Start → List Turn → Bound → Run) → Type 0
-Only rom enters run =
-    (start : Start) → IsStart start → (ts : List Turn) (n : ℕ) → (b : Bound) × OnlyShows (machine_run rom start ts n) (seen_of enters (run start ts b)) (run start ts b)
+abbrev pub Only : Device → (ℕ → Option ℕ) → (Start → List Turn → Bound → Run) → Type 0
+Only device enters run =
+    (start : Start) → IsStart start → (ts : List Turn) → AreTurns ts → (n : ℕ) → (b : Bound) × OnlyShows (machine_run device start ts n) (seen_of enters (run start ts b)) (run start ts b)
 
 -- The same where the events only declare what the program declares: places, results, arguments, writes and stops.
 pub record OnlyDeclares (m : Events) (shown : List Shown) (run : Run) : Type 0 where
@@ -94,9 +66,9 @@ pub record OnlyDeclares (m : Events) (shown : List Shown) (run : Run) : Type 0 w
   pub clean : is_clean before ≡ true
   pub waits : m.end ≡ end.Waiting → (run.end ≡ end.Waiting) × Declares m.list shown
 
-abbrev pub OnlyDeclared : List ℕ → (ℕ → Option ℕ) → (Start → List Turn → Bound → Run) → Type 0
-OnlyDeclared rom enters run =
-    (start : Start) → IsStart start → (ts : List Turn) (n : ℕ) → (b : Bound) × OnlyDeclares (machine_run rom start ts n) (show enters (run start ts b).list) (run start ts b)
+abbrev pub OnlyDeclared : Device → (ℕ → Option ℕ) → (Start → List Turn → Bound → Run) → Type 0
+OnlyDeclared device enters run =
+    (start : Start) → IsStart start → (ts : List Turn) → AreTurns ts → (n : ℕ) → (b : Bound) × OnlyDeclares (machine_run device start ts n) (show enters (run start ts b).list) (run start ts b)
 
 -- each call of the program has at most four arguments
 abbrev pub CallsFew : (Start → List Turn → Bound → Run) → Type 0

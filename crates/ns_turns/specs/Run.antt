@@ -7,9 +7,9 @@ use Rattle.ns_types.specs.declared.event.End.TheVariants as end
 use Rattle.ns_types.specs.declared.event.Events.{Events}
 use Rattle.ns_types.specs.declared.state.Side.{Side}
 use Rattle.ns_types.specs.declared.state.Side.TheVariants.{Secure, NonSecure, Stopped}
-use Rattle.ns_types.specs.declared.turn.Turn.{Turn}
+use Rattle.ns_types.specs.Turns.{Turn}
 use Rattle.ns_types.specs.declared.turn.Start.{Start}
-use Rattle.ns_types.specs.State.{State}
+use Rattle.ns_types.specs.State.{Device, State}
 use Rattle.v8m_core.specs.declared.stepped.Stepped.{Stepped}
 use Rattle.v8m_core.specs.declared.stepped.Stepped.TheVariants as what
 use Rattle.v8m_core.specs.Step.{Done, step_of, turn_of}
@@ -38,14 +38,14 @@ next_of over play step NonSecure (t ∷ ts) = play t ts
 next_of over play step Secure ts = step
 
 -- at most n steps from a state
-unfoldable pub run_of : List ℕ → ℕ → List Turn → State → Events
-run_of rom zero ts s = next_of ends (λ t rest. ends end.Spent) (ends end.Spent) s.cpu.side ts
-run_of rom (suc n) ts s =
-    next_of ends (λ t rest. after (turn_of rom t s) (run_of rom n rest (turn_of rom t s).state))
-    (after (step_of rom s) (run_of rom n ts (step_of rom s).state))
+unfoldable pub run_of : Device → ℕ → List Turn → State → Events
+run_of device zero ts s = next_of ends (λ t rest. ends end.Spent) (ends end.Spent) s.cpu.side ts
+run_of device (suc n) ts s =
+    next_of ends (λ t rest. after (turn_of device t s) (run_of device n rest (turn_of device t s).state))
+    (after (step_of device s) (run_of device n ts (step_of device s).state))
     s.cpu.side
     ts
 
 -- the machine's run: at most n steps from reset
-abbrev pub machine_run : List ℕ → Start → List Turn → ℕ → Events
-machine_run rom start ts n = run_of rom n ts (reset_of rom start)
+abbrev pub machine_run : Device → Start → List Turn → ℕ → Events
+machine_run device start ts n = run_of device n ts (reset_of device start)

@@ -14,19 +14,19 @@ use v8m_core::{Machine, Stepped};
 /// One turn of Non-secure code: Went or Stopped. Its Write items change Non-secure RAM, also where it stops.
 pub fn play_turn(machine: &mut Machine, turn: &Turn) -> Stepped
     requires { machine.old.state.cpu.side ≡ sides.NonSecure }
-    ensures rom { machine.new.rom ≡ machine.old.rom }
+    ensures device { machine.new.device ≡ machine.old.device }
     ensures ram { machine.new.state.memory.ns_ram ≡ (acted turn.now.items machine.old.state.memory.ns_ram).ram }
     ensures quiet { IsTrue (is_quiet result) }
-    ensures turn { turn_of machine.old.rom turn.now machine.old.state ≡ record { state = machine.new.state; what = result } }
+    ensures turn { turn_of machine.old.device turn.now machine.old.state ≡ record { state = machine.new.state; what = result } }
 {
     machine.turn(turn)
 }
 
 /// Takes instructions that only go on, at most so many, and answers how many. They make no event.
 fn go_on(machine: &mut Machine, most: u64) -> u64
-    ensures rom { machine.new.rom ≡ machine.old.rom }
+    ensures device { machine.new.device ≡ machine.old.device }
     ensures most { result ≤ most }
-    ensures steps { GoesOnTo machine.old.rom result machine.old.state machine.new.state }
+    ensures steps { GoesOnTo machine.old.device result machine.old.state machine.new.state }
 {
     match machine.side() {
         Side::Secure => machine.go_on(most),
@@ -36,8 +36,8 @@ fn go_on(machine: &mut Machine, most: u64) -> u64
 
 /// One step of a run, an instruction or the next turn; or how the run ends before it.
 fn advance(machine: &mut Machine, turns: &[Turn], next: &mut usize) -> Result<Stepped, End>
-    ensures rom { machine.new.rom ≡ machine.old.rom }
-    ensures step { Advances machine.old.rom (drop next.old turns.now) machine.old.state result (drop next.new turns.now) machine.new.state }
+    ensures device { machine.new.device ≡ machine.old.device }
+    ensures step { Advances machine.old.device (drop next.old turns.now) machine.old.state result (drop next.new turns.now) machine.new.state }
 {
     match machine.side() {
         Side::Stopped(_) => Err(End::Stopped),
@@ -56,7 +56,7 @@ fn advance(machine: &mut Machine, turns: &[Turn], next: &mut usize) -> Result<St
 /// How a run ends where no step is left.
 #[tactic(auto, unfolding(crate::specs::Run::run_of))]
 fn end_of(machine: &Machine, turns: &[Turn], next: usize) -> End
-    ensures { ends result ≡ run_of machine.now.rom 0 (drop next turns.now) machine.now.state }
+    ensures { ends result ≡ run_of machine.now.device 0 (drop next turns.now) machine.now.state }
 {
     match machine.side() {
         Side::Stopped(_) => End::Stopped,
@@ -88,8 +88,8 @@ fn note(list: &mut List<Event>, what: Stepped) -> Result<(), NoMemory>
 /// a stopped machine ends Stopped, Non-secure code with no turn left ends Waiting, and no step left ends Spent.
 /// After an error the machine has taken some number of steps.
 pub fn run(alloc: Global, machine: &mut Machine, turns: &[Turn], n: u64) -> Result<Events, NoMemory>
-    ensures rom { machine.new.rom ≡ machine.old.rom }
-    ensures run { IfOk result (λ events. events ≡ run_of machine.old.rom n turns.now machine.old.state) }
+    ensures device { machine.new.device ≡ machine.old.device }
+    ensures run { IfOk result (λ events. events ≡ run_of machine.old.device n turns.now machine.old.state) }
 {
     let mut list = List::new(alloc);
     let mut next = 0;

@@ -5,11 +5,11 @@ use Rattle.std.proofs.lemmas.Bool.Decides.{nat_tests}
 use Rattle.ns_types.specs.declared.goes.Goes.TheVariants as goes
 use Rattle.ns_types.specs.declared.event.Event.{Event}
 use Rattle.ns_types.specs.declared.event.Event.TheVariants as event
-use Rattle.ns_types.specs.declared.turn.Turn.{Turn}
+use Rattle.ns_types.specs.Turns.{Turn}
 use Rattle.ns_types.specs.Platform.{row, is_secure, is_nonsecure, aligned}
 use Rattle.ns_types.specs.Memory.{put_number}
 use Rattle.ns_types.specs.Boundary.{function_return, goes_outside, goes_or, goes_of}
-use Rattle.ns_types.specs.Ram.{is_turn, crosses, with_items, crossed, ram_at, AreSecure}
+use Rattle.ns_types.specs.Ram.{is_turn, crosses, with_items, moved_past, ram_at, AreSecure}
 
 not_returning : (a : ℕ) → is_nonsecure a ≡ true → eqb a function_return ≡ false
 not_returning a h = grind (arith, nat_tests)
@@ -40,12 +40,12 @@ module _ (e f : ℕ → Option ℕ) (p : AreSecure e) (q : AreSecure f) where
   crosses_same : (t : Turn) → crosses e t ≡ crosses f t
   crosses_same t = ap not (turn_is e p t.target ∙ sym (turn_is f q t.target))
 
-  crossed_same : (ts : List Turn) (ram : List ℕ) → crossed e ts ram ≡ crossed f ts ram
-  crossed_same [] ram = refl
-  crossed_same (t ∷ ts) ram =
+  moved_same : (ts : List Turn) (ram : List ℕ) → moved_past e ts ram ≡ moved_past f ts ram
+  moved_same [] ram = refl
+  moved_same (t ∷ ts) ram =
       let next = with_items t.items ram in
-      ap (λ b. cond b (record { turns = ts; ram = next }) (crossed e ts next)) (crosses_same t)
-      ∙ ap (λ m. cond (crosses f t) (record { turns = ts; ram = next }) m) (crossed_same ts next)
+      ap (λ b. cond b (record { turns = ts; ram = next }) (moved_past e ts next)) (crosses_same t)
+      ∙ ap (λ m. cond (crosses f t) (record { turns = ts; ram = next }) m) (moved_same ts next)
 
   pub ram_same : (es : List Event) (k : ℕ) (ts : List Turn) (ram : List ℕ) → ram_at e es k ts ram ≡ ram_at f es k ts ram
   ram_same [] k ts ram = refl
@@ -53,5 +53,5 @@ module _ (e f : ℕ → Option ℕ) (p : AreSecure e) (q : AreSecure f) where
   ram_same (event.Stopped x ∷ es) k ts ram = ram_same es k ts ram
   ram_same (event.Given view ∷ es) zero ts ram = refl
   ram_same (event.Given view ∷ es) (suc k) ts ram =
-      let m = crossed e ts ram in
-      ram_same es k m.turns m.ram ∙ ap (λ x. ram_at f es k x.turns x.ram) (crossed_same ts ram)
+      let m = moved_past e ts ram in
+      ram_same es k m.turns m.ram ∙ ap (λ x. ram_at f es k x.turns x.ram) (moved_same ts ram)

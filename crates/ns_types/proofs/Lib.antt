@@ -4,4 +4,4 @@ pub mod BoundLaws
 pub mod MarkLaws
 pub mod ShowLaws
 pub mod Crossings
-pub mod FewLaws
+pub mod EveryLaws

@@ -1,6 +1,6 @@
 -- What the caller sees of a program's events follows from the events, the turns and the start.
-use Rattle.std.proofs.Common.{◌≡◌, ℕ, zero, suc, List, [], ◌∷◌, ◌++◌, length, refl, sym, ap, ◌∙◌, subst, Option, Some, None}
-use Rattle.std.specs.Prelude.{take}
+use Rattle.std.proofs.Common.{◌≡◌, ℕ, zero, suc, ◌*◌, Bool, true, false, cond, List, [], ◌∷◌, ◌++◌, length, refl, sym, ap, ◌∙◌, subst, Option, Some, None}
+use Rattle.std.specs.Prelude.{take, ltb}
 use Rattle.std.proofs.lemmas.List.{map-append, take-map}
 use Rattle.cm_base.specs.declared.stop.Stop.{Stop}
 use Rattle.cm_base.specs.declared.stop.Stop.TheVariants as stop
@@ -8,14 +8,17 @@ use Rattle.ns_types.specs.declared.goes.Goes.{Goes}
 use Rattle.ns_types.specs.declared.goes.Goes.TheVariants as goes
 use Rattle.ns_types.specs.declared.event.CEvent.{CEvent}
 use Rattle.ns_types.specs.declared.event.CEvent.TheVariants as c
-use Rattle.ns_types.specs.declared.turn.Turn.{Turn}
+use Rattle.ns_types.specs.declared.event.End.TheVariants as end
+use Rattle.ns_types.specs.Turns.{Turn}
 use Rattle.ns_types.specs.declared.turn.Start.{Start}
 use Rattle.ns_types.specs.State.{Memory}
 use Rattle.ns_types.specs.Platform.{aligned}
-use Rattle.ns_types.specs.Boundary.{Mark, acted, goes_of, in_four, eight_zeros, kept_of, start_mark}
-use Rattle.ns_types.specs.CRun.{Marked, World, Outcome, Gave, Over, then_go, mark_at, emit, emit_plain, chain, phase, take_turn, turned, stop_or, stopped, at_top, run_of, fresh, c_run}
+use Rattle.ns_types.specs.declared.event.Mark.{Mark}
+use Rattle.ns_types.specs.Boundary.{acted, goes_of, in_four, eight_zeros, kept_of, start_mark}
+use Rattle.ns_types.specs.declared.event.Marked.{Marked}
+use Rattle.ns_types.specs.CRun.{World, Outcome, Gave, Over, then_go, mark_at, emit, emit_plain, counted, chain, phase, take_turn, turned, stop_or, stop_with, at_top, run_of, fresh, c_run}
 use Rattle.ns_types.specs.Show.{Shown, show, shown_of}
-use Rattle.ns_types.specs.Marks.{Frame, Tracker, newest, older, crossing, cross, going, tracker_after, mark_by, tracked, tracker_behind, first_tracker, events_of, shown_each, IsTold, Follows, Left, Tracks, AreTracked}
+use Rattle.ns_types.specs.Marks.{Frame, Tracker, newest, older, tracker_past, tracker_onward, going, tracker_after, mark_by, tracked, tracker_behind, first_tracker, events_of, shown_each, IsTold, Follows, Left, Tracks, AreTracked}
 
 module _ (enters : ℕ → Option ℕ) where
   tracked_append : (xs ys : List CEvent) (t : Tracker) → tracked enters (xs ++ ys) t ≡ tracked enters xs t ++ tracked enters ys (tracker_behind enters xs t)
@@ -50,7 +53,7 @@ module _ (enters : ℕ → Option ℕ) where
       ap (λ l. tracker_behind enters l first) (events_more ms m) ∙ behind_append (events_of ms) (m.event ∷ []) first ∙ ap (tracker_after enters m.event) at
 
   -- a stop shows the same with any mark
-  pub tracks_stop : (first now here : Tracker) (active : List Frame) (x : Stop) (w : World) → Follows enters first now here w → Tracks enters first active (stopped x w)
+  pub tracks_stop : (first now here : Tracker) (active : List Frame) (x : Stop) (w : World) → Follows enters first now here w → Tracks enters first active (stop_with x w)
   tracks_stop first now here active x w f = record { by = told_more first now w.events (record { event = c.Stopped x; mark = mark_at 0 eight_zeros w }) f.told f.behind refl }
 
   -- a write shows the same with any mark, and a call with any mark that has the stack pointers
@@ -59,7 +62,7 @@ module _ (enters : ℕ → Option ℕ) where
       let m : Marked = record { event = c.Wrote a n v; mark = mark_at 0 eight_zeros w } in
       record { told = told_more first now w.events m f.told f.behind refl; behind = behind_more first now w.events m f.behind; turns = f.turns; msp_ns = f.msp_ns; psp_ns = f.psp_ns }
 
-  pub follows_called : (first now : Tracker) (target : ℕ) (args : List ℕ) (exit : ℕ) (kept : List ℕ) (w : World) → Follows enters first now now w → Follows enters first (cross enters now) now (emit (c.Called target args) (mark_at exit kept w) w)
+  pub follows_called : (first now : Tracker) (target : ℕ) (args : List ℕ) (exit : ℕ) (kept : List ℕ) (w : World) → Follows enters first now now w → Follows enters first (tracker_onward enters now) now (emit (c.Called target args) (mark_at exit kept w) w)
   follows_called first now target args exit kept w f =
       let e = c.Called target args in
       let m : Marked = record { event = e; mark = mark_at exit kept w } in
@@ -75,9 +78,13 @@ module _ (enters : ℕ → Option ℕ) where
   tracks_or first now here active None w rest f h = h
   tracks_or first now here active (Some x) w rest f h = tracks_stop first now here active x w f
 
+  tracks_cond : (first : Tracker) (active : List Frame) (b : Bool) (o : Outcome) (w : World) → Tracks enters first active o → IsTold enters first w.events → Tracks enters first active (cond b o (Over end.Spent w))
+  tracks_cond first active true o w h told = h
+  tracks_cond first active false o w h told = record { by = told }
+
   -- a phase of turns keeps to it, where the tracker is behind the crossing that follows
   abbrev pub PhaseIsTracked : (World → Outcome) → Type 0
-  PhaseIsTracked next = (first here : Tracker) (w : World) → Follows enters first (cross enters here) here w → Tracks enters first here.active (next w)
+  PhaseIsTracked next = (first here : Tracker) (w : World) → Follows enters first (tracker_onward enters here) here w → Tracks enters first here.active (next w)
 
   abbrev mark_of : Frame → ℕ → ℕ → Mark
   mark_of f msp psp = record { exit = f.exit; kept = f.kept; msp_ns = msp; psp_ns = psp }
@@ -105,25 +112,27 @@ module _ (enters : ℕ → Option ℕ) where
   tracks_take first active a f (t ∷ ts) x y = y t ts refl
 
   module _ (enter : ℕ → List ℕ → World → Outcome) (body : AreTracked enters enter) where
-    pub tracks_chain : (next : World → Outcome) → PhaseIsTracked next → (exit : ℕ) (kept : List ℕ) (left : ℕ) (g : Goes) (args : List ℕ) (w : World) (first here : Tracker) → Follows enters first (going enters g (record { exit = exit; kept = kept }) here) here w → Tracks enters first here.active (chain enters enter next exit kept left g args w)
-    tracks_chain next phases exit kept zero (goes.Enter e) args w first here f = record { by = f.told }
-    tracks_chain next phases exit kept zero goes.Return args w first here f = record { by = record { now = here; same = refl; follows = f } }
-    tracks_chain next phases exit kept zero goes.Turn args w first here f = phases first here w f
-    tracks_chain next phases exit kept zero goes.EntryPoint args w first here f = tracks_stop first here here here.active stop.EntryPoint w f
-    tracks_chain next phases exit kept zero goes.Astray args w first here f = tracks_stop first here here here.active stop.Astray w f
-    tracks_chain next phases exit kept (suc left) (goes.Enter e) args w first here f =
+    pub tracks_chain : (next : World → Outcome) → PhaseIsTracked next → (turns exit : ℕ) (kept : List ℕ) (left : ℕ) (g : Goes) (args : List ℕ) (w : World) (first here : Tracker) → Follows enters first (going enters g (record { exit = exit; kept = kept }) here) here w → Tracks enters first here.active (chain enters enter next turns exit kept left g args w)
+    tracks_chain next phases turns exit kept zero (goes.Enter e) args w first here f = record { by = f.told }
+    tracks_chain next phases turns exit kept zero goes.Return args w first here f = record { by = record { now = here; same = refl; follows = f } }
+    tracks_chain next phases turns exit kept zero goes.Turn args w first here f = phases first here w f
+    tracks_chain next phases turns exit kept zero goes.EntryPoint args w first here f = tracks_stop first here here here.active stop.EntryPoint w f
+    tracks_chain next phases turns exit kept zero goes.Astray args w first here f = tracks_stop first here here here.active stop.Astray w f
+    tracks_chain next phases turns exit kept (suc left) (goes.Enter e) args w first here f =
         let frame : Frame = record { exit = exit; kept = kept } in
         let now : Tracker = record here { active = frame ∷ here.active } in
-        tracks_then first now.active here.active (enter e args w) _
-        (body.by first now e args w (record { told = f.told; behind = f.behind; turns = f.turns; msp_ns = f.msp_ns; psp_ns = f.psp_ns }))
+        tracks_cond first here.active (ltb w.entries turns) _ w
+        (tracks_then first now.active here.active (enter e args (counted w)) _
+        (body.by first now e args (counted w) (record { told = f.told; behind = f.behind; turns = f.turns; msp_ns = f.msp_ns; psp_ns = f.psp_ns }))
         (λ r u l.
         let after = after_result first frame here.active e r u l in
-        subst (λ a. Tracks enters first a (chain enters enter next exit kept left (goes_of enters exit) (in_four (r ∷ [])) (emit (c.Result e r) (mark_at exit kept u) u))) (ap older l.same)
-        (tracks_chain next phases exit kept left (goes_of enters exit) (in_four (r ∷ [])) (emit (c.Result e r) (mark_at exit kept u) u) first (record l.now { active = older l.now.active }) after))
-    tracks_chain next phases exit kept (suc left) goes.Return args w first here f = record { by = record { now = here; same = refl; follows = f } }
-    tracks_chain next phases exit kept (suc left) goes.Turn args w first here f = phases first here w f
-    tracks_chain next phases exit kept (suc left) goes.EntryPoint args w first here f = tracks_stop first here here here.active stop.EntryPoint w f
-    tracks_chain next phases exit kept (suc left) goes.Astray args w first here f = tracks_stop first here here here.active stop.Astray w f
+        subst (λ a. Tracks enters first a (chain enters enter next turns exit kept left (goes_of enters exit) (in_four (r ∷ [])) (emit (c.Result e r) (mark_at exit kept u) u))) (ap older l.same)
+        (tracks_chain next phases turns exit kept left (goes_of enters exit) (in_four (r ∷ [])) (emit (c.Result e r) (mark_at exit kept u) u) first (record l.now { active = older l.now.active }) after)))
+        f.told
+    tracks_chain next phases turns exit kept (suc left) goes.Return args w first here f = record { by = record { now = here; same = refl; follows = f } }
+    tracks_chain next phases turns exit kept (suc left) goes.Turn args w first here f = phases first here w f
+    tracks_chain next phases turns exit kept (suc left) goes.EntryPoint args w first here f = tracks_stop first here here here.active stop.EntryPoint w f
+    tracks_chain next phases turns exit kept (suc left) goes.Astray args w first here f = tracks_stop first here here here.active stop.Astray w f
 
     pub tracks_phase : (turns fuel : ℕ) → PhaseIsTracked (phase enters enter turns fuel)
     tracks_phase turns zero first here w f =
@@ -137,13 +146,13 @@ module _ (enters : ℕ → Option ℕ) where
         let at : Follows enters first (going enters (goes_of enters t.target) (record { exit = aligned 2 t.lr; kept = kept_of t }) next) next u =
         record {
           told = record { shown = f.told.shown };
-          behind = f.behind ∙ ap (λ l. crossing enters here.active l here.msp_ns here.psp_ns) (sym f.turns ∙ e);
+          behind = f.behind ∙ ap (λ l. tracker_past enters here.active l here.msp_ns here.psp_ns) (sym f.turns ∙ e);
           turns = refl;
           msp_ns = refl;
           psp_ns = refl;
         } in
         tracks_or first _ next here.active acts.stop u _ at
-        (tracks_chain (phase enters enter turns fuel) (tracks_phase turns fuel) (aligned 2 t.lr) (kept_of t) turns (goes_of enters t.target) (take 4 t.r) u first next at))
+        (tracks_chain (phase enters enter turns fuel) (tracks_phase turns fuel) turns (aligned 2 t.lr) (kept_of t) (turns * suc fuel) (goes_of enters t.target) (take 4 t.r) u first next at))
 
     top_told : (first : Tracker) (active : List Frame) (o : Outcome) → Tracks enters first active o → IsTold enters first (run_of (at_top o)).list
     top_told first active (Gave x w) h = (tracks_stop first h.by.now h.by.now active stop.ReturnFault w h.by.follows).by
@@ -156,7 +165,7 @@ module _ (enters : ℕ → Option ℕ) where
         let first = first_tracker start ts in
         let here : Tracker = record { turns = ts; active = []; msp_ns = m.msp_ns; psp_ns = m.psp_ns } in
         top_told first [] _
-        (tracks_chain (phase enters enter turns (length ts)) (tracks_phase turns (length ts)) m.exit m.kept turns (goes_of enters m.exit) (in_four []) (fresh start memory ts) first here
+        (tracks_chain (phase enters enter turns (length ts)) (tracks_phase turns (length ts)) turns m.exit m.kept (turns * suc (length ts)) (goes_of enters m.exit) (in_four []) (fresh start memory ts) first here
         (record { told = record { shown = refl }; behind = refl; turns = refl; msp_ns = refl; psp_ns = refl }))
 
   take_tracked : (n : ℕ) (es : List CEvent) (t : Tracker) → take n (tracked enters es t) ≡ tracked enters (take n es) t

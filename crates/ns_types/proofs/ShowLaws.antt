@@ -7,8 +7,9 @@ use Rattle.ns_types.specs.declared.goes.Goes.TheVariants as goes
 use Rattle.ns_types.specs.declared.event.Event.{Event}
 use Rattle.ns_types.specs.declared.event.CEvent.{CEvent}
 use Rattle.ns_types.specs.declared.event.CEvent.TheVariants as c
-use Rattle.ns_types.specs.Boundary.{Mark, goes_of, in_four, eight_zeros, view_of}
-use Rattle.ns_types.specs.CRun.{Marked}
+use Rattle.ns_types.specs.declared.event.Mark.{Mark}
+use Rattle.ns_types.specs.Boundary.{goes_of, in_four, eight_zeros, view_of}
+use Rattle.ns_types.specs.declared.event.Marked.{Marked}
 use Rattle.ns_types.specs.Show.{Shown, show, shown_of, given_if, events_shown}
 use Rattle.ns_types.specs.Prefix.{IsFront}
 use Rattle.ns_types.specs.Declares.{DeclaresEvent, Declares, HasFewArguments, AllHaveFewArguments, DeclaresFront}

@@ -5,7 +5,7 @@ use Rattle.cm_base.specs.declared.stop.Stop.TheVariants.{Misaligned, Outside}
 use Rattle.ns_types.specs.declared.event.CEvent.{CEvent}
 use Rattle.ns_types.specs.declared.event.CEvent.TheVariants.{Wrote}
 use Rattle.ns_types.specs.Platform.{in_row, lies_in}
-use Rattle.ns_types.specs.State.{Memory}
+use Rattle.ns_types.specs.State.{Memory, device_of}
 use Rattle.ns_types.specs.Memory.{load, store}
 use Rattle.ns_types.specs.Operators.{low_bytes}
 
@@ -27,7 +27,7 @@ unless (Some stop) x = Err stop
 
 -- a read of n bytes at a: the number, little endian; Secure ROM isn't read
 unfoldable pub read_access : ℕ → ℕ → Memory → Result ℕ Stop
-read_access n a m = unless (access_stop (may_read a n) a n) (load n a [] m)
+read_access n a m = unless (access_stop (may_read a n) a n) (load n a (device_of []) m)
 
 -- what a write leaves, and its event
 pub record Written : Type 0 where

@@ -1,5 +1,5 @@
 -- The boundary between Non-secure and Secure code: where a branch goes, what a turn's items do, and what a view shows.
-use Rattle.std.specs.Prelude.{ℕ, ◌-◌, cond, eqb, List, [], ◌∷◌, ◌++◌, slice_index, slice_set, take, Option, Some, None}
+use Rattle.std.specs.Prelude.{ℕ, ◌+◌, ◌-◌, cond, eqb, List, [], ◌∷◌, ◌++◌, slice_index, slice_set, take, Option, Some, None}
 use Rattle.cm_base.specs.declared.stop.Stop.{Stop}
 use Rattle.cm_base.specs.declared.stop.Stop.TheVariants.{Access, Astray}
 use Rattle.ns_types.specs.declared.goes.Goes.{Goes}
@@ -7,16 +7,17 @@ use Rattle.ns_types.specs.declared.goes.Goes.TheVariants as goes
 use Rattle.ns_types.specs.declared.turn.Item.{Item}
 use Rattle.ns_types.specs.declared.turn.Item.TheVariants.{Write, Read}
 use Rattle.ns_types.specs.declared.turn.View.{View}
-use Rattle.ns_types.specs.declared.turn.Turn.{Turn}
+use Rattle.ns_types.specs.Turns.{Turn}
 use Rattle.ns_types.specs.declared.turn.Start.{Start}
 use Rattle.ns_types.specs.Memory.{word_at}
+use Rattle.ns_types.specs.declared.event.Mark.{Mark}
 use Rattle.ns_types.specs.declared.event.CEvent.{CEvent}
 use Rattle.ns_types.specs.declared.event.CEvent.TheVariants as c
 use Rattle.ns_types.specs.Platform.{row, in_row, is_secure, is_nonsecure, aligned}
 
 -- the address that a branch in Non-secure state takes as a function return (DDI0553, FNC_RETURN)
 abbrev pub function_return : ℕ
-function_return = 4278190078
+function_return = 0xFEFFFFFE
 
 -- elsewhere: not at an entry
 abbrev pub goes_outside : ℕ → Goes
@@ -53,14 +54,6 @@ abbrev pub acted : List Item → List ℕ → Acted
 acted [] ram = record { ram = ram; stop = None }
 acted (item ∷ items) ram = acted_or (item_stop item) ram (acted items (with_item item ram))
 
--- What stands beside an event of the C program and shows in a view alone: where it goes, the caller's r4 to r11,
--- and the Non-secure stack pointers.
-pub record Mark : Type 0 where
-  pub exit : ℕ
-  pub kept : List ℕ
-  pub msp_ns : ℕ
-  pub psp_ns : ℕ
-
 abbrev pub eight_zeros : List ℕ
 eight_zeros = 0 ∷ 0 ∷ 0 ∷ 0 ∷ 0 ∷ 0 ∷ 0 ∷ 0 ∷ []
 
@@ -76,7 +69,7 @@ view front kept r12 lr pc mark = record { r = front ++ kept ++ r12 ∷ []; lr = 
 abbrev pub view_of : CEvent → Mark → Option View
 view_of c.Started mark = Some (view (in_four []) eight_zeros 0 mark.exit mark.exit mark)
 view_of (c.Result entry r0) mark = Some (view (in_four (r0 ∷ [])) mark.kept 0 mark.exit mark.exit mark)
-view_of (c.Called target args) mark = Some (view (in_four args) eight_zeros target 4278190079 target mark)
+view_of (c.Called target args) mark = Some (view (in_four args) eight_zeros target (function_return + 1) target mark)
 view_of (c.Wrote at size value) mark = None
 view_of (c.Stopped stop) mark = None
 

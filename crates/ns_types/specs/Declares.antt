@@ -5,8 +5,9 @@ use Rattle.ns_types.specs.declared.event.Event.TheVariants as event
 use Rattle.ns_types.specs.declared.event.CEvent.{CEvent}
 use Rattle.ns_types.specs.declared.event.CEvent.TheVariants as c
 use Rattle.ns_types.specs.declared.turn.View.{View}
-use Rattle.ns_types.specs.CRun.{Marked, World, Outcome}
-use Rattle.ns_types.specs.Bounds.{world_of}
+use Rattle.ns_types.specs.declared.event.Marked.{Marked}
+use Rattle.ns_types.specs.CRun.{World, Outcome}
+use Rattle.ns_types.specs.Every.{EveryEvent, Keep}
 use Rattle.ns_types.specs.Show.{Shown}
 use Rattle.ns_types.specs.Prefix.{IsFront}
 
@@ -42,8 +43,7 @@ HasFewArguments (c.Wrote at size value) = Unit {0}
 HasFewArguments (c.Stopped stop) = Unit {0}
 
 abbrev pub AllHaveFewArguments : List Marked → Type 0
-AllHaveFewArguments [] = Unit {0}
-AllHaveFewArguments (m ∷ ms) = HasFewArguments m.event × AllHaveFewArguments ms
+AllHaveFewArguments ms = EveryEvent HasFewArguments ms
 
 -- events declare some first ones of a list
 pub record DeclaresFront (events : List Event) (shown : List Shown) : Type 0 where
@@ -52,5 +52,5 @@ pub record DeclaresFront (events : List Event) (shown : List Shown) : Type 0 whe
   pub declares : Declares events part
 
 -- bodies of entries keep to that
-pub record KeepFew (enter : ℕ → List ℕ → World → Outcome) : Type 0 where
-  pub by : (e : ℕ) (args : List ℕ) (w : World) → AllHaveFewArguments w.events → AllHaveFewArguments (world_of (enter e args w)).events
+abbrev pub KeepFew : (ℕ → List ℕ → World → Outcome) → Type 0
+KeepFew enter = Keep HasFewArguments enter

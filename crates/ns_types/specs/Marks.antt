@@ -5,11 +5,13 @@ use Rattle.ns_types.specs.declared.goes.Goes.{Goes}
 use Rattle.ns_types.specs.declared.goes.Goes.TheVariants as goes
 use Rattle.ns_types.specs.declared.event.CEvent.{CEvent}
 use Rattle.ns_types.specs.declared.event.CEvent.TheVariants as c
-use Rattle.ns_types.specs.declared.turn.Turn.{Turn}
+use Rattle.ns_types.specs.Turns.{Turn}
 use Rattle.ns_types.specs.declared.turn.Start.{Start}
 use Rattle.ns_types.specs.Platform.{aligned}
-use Rattle.ns_types.specs.Boundary.{goes_of, Mark, eight_zeros, kept_of, start_mark}
-use Rattle.ns_types.specs.CRun.{Marked, World, Outcome, Gave, Over}
+use Rattle.ns_types.specs.declared.event.Mark.{Mark}
+use Rattle.ns_types.specs.Boundary.{goes_of, eight_zeros, kept_of, start_mark}
+use Rattle.ns_types.specs.declared.event.Marked.{Marked}
+use Rattle.ns_types.specs.CRun.{World, Outcome, Gave, Over}
 use Rattle.ns_types.specs.Show.{Shown, shown_of}
 
 -- of an active entry: where its result goes, and the caller's r4 to r11
@@ -32,28 +34,28 @@ abbrev pub older : List Frame → List Frame
 older [] = []
 older (f ∷ fs) = fs
 
--- a branch to Non-secure code or from it, for which a frame stands; crossed is what the next turns make of it
+-- a branch to Non-secure code or from it, for which a frame stands; onward is what the next turns make of it
 abbrev pub led : Goes → Frame → Tracker → Tracker → Tracker
-led (goes.Enter e) f t crossed = record t { active = f ∷ t.active }
-led goes.Turn f t crossed = crossed
-led goes.Return f t crossed = t
-led goes.EntryPoint f t crossed = t
-led goes.Astray f t crossed = t
+led (goes.Enter e) f t onward = record t { active = f ∷ t.active }
+led goes.Turn f t onward = onward
+led goes.Return f t onward = t
+led goes.EntryPoint f t onward = t
+led goes.Astray f t onward = t
 
 -- the turns up to the next one that leaves Non-secure code
-abbrev pub crossing : (ℕ → Option ℕ) → List Frame → List Turn → ℕ → ℕ → Tracker
-crossing enters active [] msp psp = record { turns = []; active = active; msp_ns = msp; psp_ns = psp }
-crossing enters active (t ∷ ts) msp psp =
+abbrev pub tracker_past : (ℕ → Option ℕ) → List Frame → List Turn → ℕ → ℕ → Tracker
+tracker_past enters active [] msp psp = record { turns = []; active = active; msp_ns = msp; psp_ns = psp }
+tracker_past enters active (t ∷ ts) msp psp =
     let m = aligned 4 t.msp_ns in
     let p = aligned 4 t.psp_ns in
-    led (goes_of enters t.target) (record { exit = aligned 2 t.lr; kept = kept_of t }) (record { turns = ts; active = active; msp_ns = m; psp_ns = p }) (crossing enters active ts m p)
+    led (goes_of enters t.target) (record { exit = aligned 2 t.lr; kept = kept_of t }) (record { turns = ts; active = active; msp_ns = m; psp_ns = p }) (tracker_past enters active ts m p)
 
-abbrev pub cross : (ℕ → Option ℕ) → Tracker → Tracker
-cross enters t = crossing enters t.active t.turns t.msp_ns t.psp_ns
+abbrev pub tracker_onward : (ℕ → Option ℕ) → Tracker → Tracker
+tracker_onward enters t = tracker_past enters t.active t.turns t.msp_ns t.psp_ns
 
 -- going to a place
 abbrev pub going : (ℕ → Option ℕ) → Goes → Frame → Tracker → Tracker
-going enters g f t = led g f t (cross enters t)
+going enters g f t = led g f t (tracker_onward enters t)
 
 -- the newest entry has its result
 abbrev pub leaving : (ℕ → Option ℕ) → Tracker → Tracker
@@ -63,7 +65,7 @@ leaving enters t = let f = newest t.active in going enters (goes_of enters f.exi
 abbrev pub tracker_after : (ℕ → Option ℕ) → CEvent → Tracker → Tracker
 tracker_after enters c.Started t = leaving enters t
 tracker_after enters (c.Result entry r0) t = leaving enters t
-tracker_after enters (c.Called target args) t = cross enters t
+tracker_after enters (c.Called target args) t = tracker_onward enters t
 tracker_after enters (c.Wrote at size value) t = t
 tracker_after enters (c.Stopped stop) t = t
 

@@ -7,6 +7,10 @@ use Rattle.cm_base.specs.declared.regions.TheConstants.{PLATFORM}
 abbrev pub row : ℕ → Row
 row k = slice_index_or PLATFORM.rows k (record { from = 0; to = 0 })
 
+-- the number of bytes of row k
+abbrev pub row_size : ℕ → ℕ
+row_size k = (row k).to - (row k).from
+
 -- an address lies in row k
 abbrev pub in_row : ℕ → ℕ → Bool
 in_row k a = leb (row k).from a && ltb a (row k).to

@@ -5,7 +5,7 @@ use Rattle.ns_types.specs.declared.goes.Goes.TheVariants as goes
 use Rattle.ns_types.specs.declared.event.Event.{Event}
 use Rattle.ns_types.specs.declared.event.Event.TheVariants as event
 use Rattle.ns_types.specs.declared.turn.Item.{Item}
-use Rattle.ns_types.specs.declared.turn.Turn.{Turn}
+use Rattle.ns_types.specs.Turns.{Turn}
 use Rattle.ns_types.specs.Platform.{row, is_nonsecure}
 use Rattle.ns_types.specs.Memory.{put_number}
 use Rattle.ns_types.specs.Boundary.{goes_of, with_item}
@@ -32,10 +32,10 @@ pub record Moved : Type 0 where
   pub ram : List ℕ
 
 -- after the turns up to and including the next crossing
-abbrev pub crossed : (ℕ → Option ℕ) → List Turn → List ℕ → Moved
-crossed enters [] ram = record { turns = []; ram = ram }
-crossed enters (t ∷ ts) ram =
-    cond (crosses enters t) (record { turns = ts; ram = with_items t.items ram }) (crossed enters ts (with_items t.items ram))
+abbrev pub moved_past : (ℕ → Option ℕ) → List Turn → List ℕ → Moved
+moved_past enters [] ram = record { turns = []; ram = ram }
+moved_past enters (t ∷ ts) ram =
+    cond (crosses enters t) (record { turns = ts; ram = with_items t.items ram }) (moved_past enters ts (with_items t.items ram))
 
 -- Non-secure RAM at the k-th hand-over, counted from 0, if there is one. Before it came all writes of Secure code up to
 -- there, and the items of all turns up to and including the k-th crossing, crossings being counted from 1.
@@ -44,7 +44,7 @@ ram_at enters [] k ts ram = None
 ram_at enters (event.Wrote at size value ∷ es) k ts ram = ram_at enters es k ts (put_number size ram (at - (row 1).from) value)
 ram_at enters (event.Stopped stop ∷ es) k ts ram = ram_at enters es k ts ram
 ram_at enters (event.Given view ∷ es) zero ts ram = Some ram
-ram_at enters (event.Given view ∷ es) (suc k) ts ram = let m = crossed enters ts ram in ram_at enters es k m.turns m.ram
+ram_at enters (event.Given view ∷ es) (suc k) ts ram = let m = moved_past enters ts ram in ram_at enters es k m.turns m.ram
 
 -- no entry stands in Non-secure memory
 pub record AreSecure (enters : ℕ → Option ℕ) : Type 0 where

@@ -7,8 +7,9 @@ use Rattle.ns_types.specs.declared.event.Event.TheVariants as event
 use Rattle.ns_types.specs.declared.event.CEvent.{CEvent}
 use Rattle.ns_types.specs.declared.event.CEvent.TheVariants as c
 use Rattle.ns_types.specs.declared.turn.View.{View}
-use Rattle.ns_types.specs.Boundary.{goes_of, Mark, view_of}
-use Rattle.ns_types.specs.CRun.{Marked}
+use Rattle.ns_types.specs.declared.event.Mark.{Mark}
+use Rattle.ns_types.specs.Boundary.{goes_of, view_of}
+use Rattle.ns_types.specs.declared.event.Marked.{Marked}
 
 -- an event that the caller sees, and the event of the program that it is made of
 pub record Shown : Type 0 where

@@ -49,7 +49,14 @@ pub record State : Type 0 where
   pub cpu : Cpu
   pub memory : Memory
 
--- a machine: the bytes of Secure ROM with those of the Non-secure callable region, and its state
-pub record Whole : Type 0 where
+-- what no step changes: the bytes of Secure ROM, with those of the Non-secure callable region behind them
+pub record Device : Type 0 where
   pub rom : List ℕ
+
+abbrev pub device_of : List ℕ → Device
+device_of rom = record { rom = rom }
+
+-- a machine: its device and its state
+pub record Whole : Type 0 where
+  pub device : Device
   pub state : State

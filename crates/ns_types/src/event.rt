@@ -44,6 +44,25 @@ pub enum CEvent {
     Stopped(Stop),
 }
 
+/// What stands beside an event of the C program and shows in a view alone.
+#[derive(Clone, Copy, Debug, PartialEq, Eq)]
+pub struct Mark {
+    /// Where the event goes.
+    pub exit: u32,
+    /// The caller's r4 to r11.
+    pub kept: [u32; 8],
+    /// The Non-secure stack pointers as last set.
+    pub msp_ns: u32,
+    pub psp_ns: u32,
+}
+
+/// An event of the C program with what stands beside it.
+#[derive(Debug, Drop)]
+pub struct Marked {
+    pub event: CEvent,
+    pub mark: Mark,
+}
+
 /// The events of a C run, its end, and the greatest stack need of the functions active at one moment, in bytes.
 #[derive(Debug, Drop)]
 pub struct CEvents {

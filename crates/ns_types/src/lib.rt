@@ -8,7 +8,7 @@ pub mod laws;
 mod state;
 mod turn;
 
-pub use event::{Bound, CEvent, CEvents, End, Event, Events, Veneer, Veneers};
+pub use event::{Bound, CEvent, CEvents, End, Event, Events, Mark, Marked, Veneer, Veneers};
 pub use goes::Goes;
 pub use state::{Cpu, Regs, Side};
 pub use turn::{Item, Start, Turn, View};

@@ -1,6 +1,10 @@
 //! What the Non-secure caller sets and sees.
 
+ghost use Rattle.std.specs.Prelude.{◌≡◌, length};
+ghost use Rattle.ns_types.specs.Turns.{AreItems, AreTurns, AreWords, IsTurn};
+
 use cm_base::{Bytes, List};
+use std::marker::Model;
 
 /// What memory holds when the device is reset.
 #[derive(Debug, Drop)]
@@ -33,6 +37,56 @@ pub struct Turn {
     pub psp_ns: u32,
     pub items: List<Item>,
     pub target: u32,
+}
+
+impl Model for Turn {
+    ghost use Rattle.std.specs.Prelude.{◌≤◌};
+    ghost use Rattle.ns_types.specs.Turns as spec;
+
+    ghost Value = { spec.Turn };
+
+    ghost view = { λ it. record {
+        r = it.r;
+        lr = it.lr;
+        nzcvq = it.nzcvq;
+        msp_ns = it.msp_ns;
+        psp_ns = it.psp_ns;
+        items = it.items;
+        target = it.target;
+    } };
+
+    ghost invariant = { λ it. it.nzcvq ≤ 31 };
+}
+
+/// Registers are thirteen words.
+fn are_words(r: &[u32; 13])
+    ensures count { length r.now ≡ 13 }
+    ensures words { AreWords r.now }
+{}
+
+/// Items have an address and a byte.
+fn are_items(items: &[Item])
+    ensures { AreItems items.now }
+{}
+
+impl Turn {
+    /// Each number of a turn fits where it goes.
+    pub fn within(&self)
+        ensures { IsTurn self.now }
+    {
+        are_words(&self.r);
+        are_items(self.items.as_slice());
+        let _ = &self.nzcvq;
+    }
+
+    /// So it is with many turns.
+    pub fn all_within(turns: &[Turn])
+        ensures { AreTurns turns.now }
+    {
+        for turn in turns {
+            turn.within();
+        }
+    }
 }
 
 /// All that Non-secure code sees of the registers where Secure code hands over.

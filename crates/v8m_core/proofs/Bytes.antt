@@ -7,7 +7,7 @@ use Rattle.v8m_isa.specs.declared.instr.Instr.{Instr}
 use Rattle.v8m_isa.specs.Table.{in_range_of, size_of, code_of}
 use Rattle.ns_types.specs.Platform.{is_in_rom}
 use Rattle.ns_types.specs.Memory.{half_at, word_at}
-use Rattle.v8m_core.specs.Step.{fetched}
+use Rattle.ns_types.specs.Gateway.{fetched}
 use Rattle.v8m_core.specs.Code.{HasCode, two, instr_bytes, code_bytes, AllInRange}
 use Rattle.v8m_isa.proofs.Laws.{size_of_two_or_four, first-code_of_lt, second-code_of_lt}
 
@@ -37,15 +37,15 @@ length_bytes i =
     (λ e. ap (λ n. length (cond (eqb n 2) (two (code_of i).first) (two (code_of i).first ++ two (code_of i).second))) e ∙ sym e)
     (size_of_two_or_four i)
 
-first_stands : (i : Instr) (rom pre post : List ℕ) → in_range_of i ≡ true → rom ≡ pre ++ (instr_bytes i ++ post) → half_at rom (length pre) ≡ (code_of i).first
-first_stands i rom pre post range e =
+first_stands : (i : Instr) (device pre post : List ℕ) → in_range_of i ≡ true → device ≡ pre ++ (instr_bytes i ++ post) → half_at device (length pre) ≡ (code_of i).first
+first_stands i device pre post range e =
     ⊎_elim
     (λ s. ap (λ r. half_at r (length pre)) (e ∙ ap (λ n. pre ++ (cond (eqb n 2) (two (code_of i).first) (two (code_of i).first ++ two (code_of i).second) ++ post)) s) ∙ half_at_seam pre post (code_of i).first (length pre) (first-code_of_lt i range) refl)
     (λ s. ap (λ r. half_at r (length pre)) (e ∙ ap (λ n. pre ++ (cond (eqb n 2) (two (code_of i).first) (two (code_of i).first ++ two (code_of i).second) ++ post)) s) ∙ half_at_seam pre (two (code_of i).second ++ post) (code_of i).first (length pre) (first-code_of_lt i range) refl)
     (size_of_two_or_four i)
 
-second_stands : (i : Instr) (rom pre post : List ℕ) → in_range_of i ≡ true → rom ≡ pre ++ (instr_bytes i ++ post) → (size_of i ≡ 2) ⊎ (half_at rom (length pre + 2) ≡ (code_of i).second)
-second_stands i rom pre post range e =
+second_stands : (i : Instr) (device pre post : List ℕ) → in_range_of i ≡ true → device ≡ pre ++ (instr_bytes i ++ post) → (size_of i ≡ 2) ⊎ (half_at device (length pre + 2) ≡ (code_of i).second)
+second_stands i device pre post range e =
     ⊎_elim (λ s. inl s)
     (λ s. inr (
     let turn : pre ++ (two (code_of i).first ++ two (code_of i).second ++ post) ≡ (pre ++ two (code_of i).first) ++ (two (code_of i).second ++ post) = sym (append_assoc pre (two (code_of i).first) (two (code_of i).second ++ post)) in
@@ -53,25 +53,25 @@ second_stands i rom pre post range e =
     ap (λ r. half_at r (length pre + 2)) (e ∙ ap (λ n. pre ++ (cond (eqb n 2) (two (code_of i).first) (two (code_of i).first ++ two (code_of i).second) ++ post)) s ∙ turn) ∙ half_at_seam (pre ++ two (code_of i).first) post (code_of i).second (length pre + 2) (second-code_of_lt i range) n))
     (size_of_two_or_four i)
 
-pub has_code : (is : List Instr) (rom pre post : List ℕ) → rom ≡ pre ++ (code_bytes is ++ post) → length rom ≤ 4194304 → AllInRange is → HasCode rom (268435456 + length pre) is
-has_code [] rom pre post e fit all = tt
-has_code (i ∷ is) rom pre post e fit all =
-    let e' : rom ≡ pre ++ (instr_bytes i ++ (code_bytes is ++ post)) = e ∙ ap (λ t. pre ++ t) (append_assoc (instr_bytes i) (code_bytes is) post) in
-    let e'' : rom ≡ (pre ++ instr_bytes i) ++ (code_bytes is ++ post) = e' ∙ sym (append_assoc pre (instr_bytes i) (code_bytes is ++ post)) in
+pub has_code : (is : List Instr) (device pre post : List ℕ) → device ≡ pre ++ (code_bytes is ++ post) → length device ≤ 4194304 → AllInRange is → HasCode device (268435456 + length pre) is
+has_code [] device pre post e fit all = tt
+has_code (i ∷ is) device pre post e fit all =
+    let e' : device ≡ pre ++ (instr_bytes i ++ (code_bytes is ++ post)) = e ∙ ap (λ t. pre ++ t) (append_assoc (instr_bytes i) (code_bytes is) post) in
+    let e'' : device ≡ (pre ++ instr_bytes i) ++ (code_bytes is ++ post) = e' ∙ sym (append_assoc pre (instr_bytes i) (code_bytes is ++ post)) in
     let n : length (pre ++ instr_bytes i) ≡ length pre + size_of i = length-append pre (instr_bytes i) ∙ ap (λ k. length pre + k) (length_bytes i) in
     let m : 268435456 + length (pre ++ instr_bytes i) ≡ 268435456 + length pre + size_of i = omega (arith, n) in
     let back : 268435456 + length pre - 268435456 ≡ length pre = omega arith in
     let back2 : 268435456 + length pre + 2 - 268435456 ≡ length pre + 2 = omega arith in
-    let total : length rom ≡ length pre + size_of i + length (code_bytes is ++ post) = ap length e'' ∙ length-append (pre ++ instr_bytes i) (code_bytes is ++ post) ∙ ap (λ k. k + length (code_bytes is ++ post)) n in
+    let total : length device ≡ length pre + size_of i + length (code_bytes is ++ post) = ap length e'' ∙ length-append (pre ++ instr_bytes i) (code_bytes is ++ post) ∙ ap (λ k. k + length (code_bytes is ++ post)) n in
     let two_or : 2 ≤ size_of i = ⊎_elim (λ s. omega arith) (λ s. omega arith) (size_of_two_or_four i) in (
       record {
         range = all.0;
         place = (let a : 268435456 + length pre < 272629760 = omega arith in grind (arith, nat_tests));
-        first = ap (half_at rom) back ∙ first_stands i rom pre (code_bytes is ++ post) all.0 e';
+        first = ap (half_at device) back ∙ first_stands i device pre (code_bytes is ++ post) all.0 e';
         second = ⊎_elim
             (λ s. inl s)
-            (λ s. ⊎_elim {C = (size_of i ≡ 2) ⊎ ((is_in_rom (268435456 + length pre + 2) ≡ true) × (fetched rom (268435456 + length pre + 2) ≡ (code_of i).second))} (λ t. inl t) (λ h. inr ((let a : 268435456 + length pre + 2 < 272629760 = omega arith in grind (arith, nat_tests)), ap (half_at rom) back2 ∙ h)) (second_stands i rom pre (code_bytes is ++ post) all.0 e'))
+            (λ s. ⊎_elim {C = (size_of i ≡ 2) ⊎ ((is_in_rom (268435456 + length pre + 2) ≡ true) × (fetched device (268435456 + length pre + 2) ≡ (code_of i).second))} (λ t. inl t) (λ h. inr ((let a : 268435456 + length pre + 2 < 272629760 = omega arith in grind (arith, nat_tests)), ap (half_at device) back2 ∙ h)) (second_stands i device pre (code_bytes is ++ post) all.0 e'))
             (size_of_two_or_four i);
       },
-      subst (λ p. HasCode rom p is) m (has_code is rom (pre ++ instr_bytes i) post e'' fit all.1),
+      subst (λ p. HasCode device p is) m (has_code is device (pre ++ instr_bytes i) post e'' fit all.1),
     )

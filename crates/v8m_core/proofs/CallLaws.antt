@@ -5,7 +5,7 @@ use Rattle.std.proofs.lemmas.Bool.Decides.{nat_tests}
 use Rattle.cm_base.specs.declared.stop.Stop.TheVariants as stop
 use Rattle.ns_types.specs.declared.state.Cpu.{Cpu}
 use Rattle.ns_types.specs.declared.state.Side.TheVariants.{Secure}
-use Rattle.ns_types.specs.State.{State, Memory}
+use Rattle.ns_types.specs.State.{Device, State, Memory}
 use Rattle.ns_types.specs.Platform.{is_readable, is_writable, is_in_rom, aligned}
 use Rattle.ns_types.specs.Memory.{IsWhole, load, store}
 use Rattle.v8m_core.specs.Values.{difference32}
@@ -60,9 +60,9 @@ abbrev pub back_at : ℕ → ℕ → State → State
 back_at sp a s = record s { cpu = record s.cpu { side = Secure; regs = record s.cpu.regs { sp = sp }; pc = a } }
 
 -- a function return right behind a call takes the words of the call
-return_of_call : (back : ℕ) (rom : List ℕ) (s : State) → IsWhole s.memory → s.cpu.regs.sp < 4294967296 → back < 4294967296 → call_stop s.cpu ≡ None → return_to rom (called back s) ≡ unless (cond (is_in_rom (aligned 2 back)) None (Some stop.BadState)) (called back s) (went (returned (aligned 2 back) (called back s)))
+return_of_call : (back : ℕ) (device : Device) (s : State) → IsWhole s.memory → s.cpu.regs.sp < 4294967296 → back < 4294967296 → call_stop s.cpu ≡ None → return_to device (called back s) ≡ unless (cond (is_in_rom (aligned 2 back)) None (Some stop.BadState)) (called back s) (went (returned (aligned 2 back) (called back s)))
 unfolding return_to return_stop
-return_of_call back rom s whole lt_sp lt_back h =
+return_of_call back device s whole lt_sp lt_back h =
     let sp = s.cpu.regs.sp in
     let p = difference32 sp 8 in
     let t = called back s in
@@ -72,23 +72,23 @@ return_of_call back rom s whole lt_sp lt_back h =
     let m1 : Memory = store 4 p back s.memory in
     let mem : t.memory ≡ store 4 (p + 4) 0 m1 = ap (λ x. store 4 x 0 m1) e.second in
     let whole1 : IsWhole m1 = whole_store p back s.memory whole r.first in
-    let second : load 4 (p + 4) rom t.memory ≡ 0 = ap (load 4 (p + 4) rom) mem ∙ load_same (p + 4) 0 rom m1 whole1 can2 (omega arith) in
-    let first : load 4 p rom t.memory ≡ back = ap (load 4 p rom) mem ∙ load_other p (p + 4) 0 rom m1 r.first can2 (inl (omega arith)) ∙ load_same p back rom s.memory whole r.first lt_back in
+    let second : load 4 (p + 4) device t.memory ≡ 0 = ap (load 4 (p + 4) device) mem ∙ load_same (p + 4) 0 device m1 whole1 can2 (omega arith) in
+    let first : load 4 p device t.memory ≡ back = ap (load 4 p device) mem ∙ load_other p (p + 4) 0 device m1 r.first can2 (inl (omega arith)) ∙ load_same p back device s.memory whole r.first lt_back in
     let even : eqb (p % 8) 0 ≡ true = (let z : p % 8 ≡ 0 = omega (arith, e.sum, r.aligned) in grind (arith, nat_tests)) in
     let two : (is_readable p 4 && is_readable (p + 4) 4) ≡ true = ap (λ b. b && is_readable (p + 4) 4) (readable_where_writable p r.first) ∙ readable_where_writable (p + 4) can2 in
-    let low : eqb (load 4 (p + 4) rom t.memory % 512) 0 ≡ true = ap (λ x. eqb (x % 512) 0) second in
-    let why = stop_by _ _ _ (is_in_rom (aligned 2 (load 4 p rom t.memory))) even two low in
-    ap (λ o. unless o t (went (returned (aligned 2 (load 4 p rom t.memory)) t))) why
+    let low : eqb (load 4 (p + 4) device t.memory % 512) 0 ≡ true = ap (λ x. eqb (x % 512) 0) second in
+    let why = stop_by _ _ _ (is_in_rom (aligned 2 (load 4 p device t.memory))) even two low in
+    ap (λ o. unless o t (went (returned (aligned 2 (load 4 p device t.memory)) t))) why
     ∙ ap (λ x. unless (cond (is_in_rom (aligned 2 x)) None (Some stop.BadState)) t (went (returned (aligned 2 x) t))) first
 
-pub call_of_return_out : (back : ℕ) (rom : List ℕ) (s : State) → IsWhole s.memory → s.cpu.regs.sp < 4294967296 → back < 4294967296 → call_stop s.cpu ≡ None → is_in_rom (aligned 2 back) ≡ false → only_stopped s (return_to rom (called back s)) ≡ stopped stop.BadState s
-call_of_return_out back rom s whole lt_sp lt_back h out =
-    ap (only_stopped s) (return_of_call back rom s whole lt_sp lt_back h)
+pub call_of_return_out : (back : ℕ) (device : Device) (s : State) → IsWhole s.memory → s.cpu.regs.sp < 4294967296 → back < 4294967296 → call_stop s.cpu ≡ None → is_in_rom (aligned 2 back) ≡ false → only_stopped s (return_to device (called back s)) ≡ stopped stop.BadState s
+call_of_return_out back device s whole lt_sp lt_back h out =
+    ap (only_stopped s) (return_of_call back device s whole lt_sp lt_back h)
     ∙ ap (λ b. only_stopped s (unless (cond b None (Some stop.BadState)) (called back s) (went (returned (aligned 2 back) (called back s))))) out
 
 -- with SP as it was before
-pub call_of_return : (back : ℕ) (rom : List ℕ) (s : State) → IsWhole s.memory → s.cpu.regs.sp < 4294967296 → back < 4294967296 → call_stop s.cpu ≡ None → is_in_rom (aligned 2 back) ≡ true → only_stopped s (return_to rom (called back s)) ≡ went (back_at s.cpu.regs.sp (aligned 2 back) (called back s))
-call_of_return back rom s whole lt_sp lt_back h in_rom =
-    ap (only_stopped s) (return_of_call back rom s whole lt_sp lt_back h)
+pub call_of_return : (back : ℕ) (device : Device) (s : State) → IsWhole s.memory → s.cpu.regs.sp < 4294967296 → back < 4294967296 → call_stop s.cpu ≡ None → is_in_rom (aligned 2 back) ≡ true → only_stopped s (return_to device (called back s)) ≡ went (back_at s.cpu.regs.sp (aligned 2 back) (called back s))
+call_of_return back device s whole lt_sp lt_back h in_rom =
+    ap (only_stopped s) (return_of_call back device s whole lt_sp lt_back h)
     ∙ ap (λ b. only_stopped s (unless (cond b None (Some stop.BadState)) (called back s) (went (returned (aligned 2 back) (called back s))))) in_rom
     ∙ ap (λ x. went (back_at x (aligned 2 back) (called back s))) (below s.cpu.regs.sp lt_sp (room s.cpu h).first).sum

@@ -1,13 +1,13 @@
 -- How effects end.
 use Rattle.std.proofs.Common.{◌≡◌, ℕ, List, Option, sym, subst}
 use Rattle.cm_base.specs.declared.stop.Stop.{Stop}
-use Rattle.ns_types.specs.State.{State}
+use Rattle.ns_types.specs.State.{Device, State}
 use Rattle.v8m_core.specs.declared.effect.Effect.{Effect}
 use Rattle.v8m_core.specs.declared.effect.Effect.TheVariants as effect
 use Rattle.v8m_core.specs.Step.{apply, write_register}
 use Rattle.v8m_core.specs.Parts.{Ends, EndsBy, shown}
 
 -- a write of a register
-pub put_ends : (rom : List ℕ) (e : Effect) (size d v : ℕ) (s t : State) (why : Option Stop) → e ≡ effect.Put d v → Ends (write_register size d v s) s t why → EndsBy (shown e) (apply rom e size s) s t why
+pub put_ends : (device : Device) (e : Effect) (size d v : ℕ) (s t : State) (why : Option Stop) → e ≡ effect.Put d v → Ends (write_register size d v s) s t why → EndsBy (shown e) (apply device e size s) s t why
 unfolding apply
-put_ends rom e size d v s t why is h = subst (λ x. EndsBy (shown x) (apply rom x size s) s t why) (sym is) h
+put_ends device e size d v s t why is h = subst (λ x. EndsBy (shown x) (apply device x size s) s t why) (sym is) h

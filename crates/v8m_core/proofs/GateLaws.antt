@@ -5,13 +5,14 @@ use Rattle.std.proofs.lemmas.Bool.Decides.{nat_tests}
 use Rattle.std.proofs.lemmas.Nat.Bits.{and_high_mask}
 use Rattle.cm_base.specs.declared.stop.Stop.TheVariants as stop
 use Rattle.ns_types.specs.declared.goes.Goes.TheVariants as goes
-use Rattle.ns_types.specs.declared.turn.Turn.{Turn}
-use Rattle.ns_types.specs.State.{State, Memory}
+use Rattle.ns_types.specs.Turns.{Turn}
+use Rattle.ns_types.specs.State.{Device, State, Memory}
 use Rattle.ns_types.specs.Platform.{row, in_row, is_secure, is_nonsecure, is_in_rom, lies_in, aligned}
 use Rattle.ns_types.specs.Memory.{word_at, store, put_number}
 use Rattle.ns_types.specs.Boundary.{function_return, goes_or, goes_of, acted}
 use Rattle.v8m_core.specs.declared.stepped.Stepped.TheVariants as what
-use Rattle.v8m_core.specs.Step.{went, stopped, fetched, is_gateway, gateway_at, goes_in, seen, entered, handed, return_to, arrived, bxns, turned, turn_of, unless}
+use Rattle.ns_types.specs.Gateway.{fetched, is_gateway, gateway_at}
+use Rattle.v8m_core.specs.Step.{went, stopped, goes_in, seen, entered, handed, return_to, arrived, bxns, turned, turn_of, unless}
 
 pub word_at_lt : (bytes : List ℕ) (o : ℕ) → word_at bytes o < 4294967296
 unfolding word_at
@@ -37,38 +38,38 @@ store_ns_rom size a v m = choose (in_row 1 a) (record m { ns_ram = put_number si
     choose false x y p q = q
 
 -- no gateway stands outside the Non-secure callable region
-no_gateway : (rom : List ℕ) (a : ℕ) → is_nonsecure a ≡ true → is_gateway rom a ≡ false
+no_gateway : (device : Device) (a : ℕ) → is_nonsecure a ≡ true → is_gateway device a ≡ false
 unfolding is_gateway
-no_gateway rom a h = let out : lies_in 3 a 4 ≡ false = grind (arith, nat_tests) in ap (λ b. b && (eqb (fetched rom a) 59775 && eqb (fetched rom (a + 2)) 59775)) out
+no_gateway device a h = let out : lies_in 3 a 4 ≡ false = grind (arith, nat_tests) in ap (λ b. b && (eqb (fetched device a) 59775 && eqb (fetched device (a + 2)) 59775)) out
 
 -- Non-secure memory is where a turn follows
-pub goes_turn : (rom : List ℕ) (a : ℕ) → is_nonsecure a ≡ true → a % 2 ≡ 0 → goes_in rom a ≡ goes.Turn
+pub goes_turn : (device : Device) (a : ℕ) → is_nonsecure a ≡ true → a % 2 ≡ 0 → goes_in device a ≡ goes.Turn
 unfolding goes_in goes_of
-goes_turn rom a h even =
-    ap (λ x. goes_or (gateway_at rom x) x) (aligned_twice a even)
-    ∙ ap (λ b. goes_or (cond b (Some a) None) a) (no_gateway rom a h)
+goes_turn device a h even =
+    ap (λ x. goes_or (gateway_at device x) x) (aligned_twice a even)
+    ∙ ap (λ b. goes_or (cond b (Some a) None) a) (no_gateway device a h)
     ∙ (let ne : eqb a function_return ≡ false = grind (arith, nat_tests) in ap (λ b. cond b goes.Return (cond (is_nonsecure a) goes.Turn (cond (is_secure a) goes.EntryPoint goes.Astray))) ne)
     ∙ ap (λ b. cond b goes.Turn (cond (is_secure a) goes.EntryPoint goes.Astray)) h
 
 -- where a gateway stands the entry follows
-pub goes_enter : (rom : List ℕ) (t a : ℕ) → aligned 2 t ≡ a → is_gateway rom a ≡ true → goes_in rom t ≡ goes.Enter a
+pub goes_enter : (device : Device) (t a : ℕ) → aligned 2 t ≡ a → is_gateway device a ≡ true → goes_in device t ≡ goes.Enter a
 unfolding goes_in goes_of
-goes_enter rom t a e h = ap (λ x. goes_or (gateway_at rom x) x) e ∙ ap (λ b. goes_or (cond b (Some a) None) a) h
+goes_enter device t a e h = ap (λ x. goes_or (gateway_at device x) x) e ∙ ap (λ b. goes_or (cond b (Some a) None) a) h
 
 -- BXNS to Non-secure memory hands over
-pub bxns_hands : (rom : List ℕ) (v : ℕ) (s : State) → is_nonsecure v ≡ true → v % 2 ≡ 0 → bxns rom v s ≡ record { state = handed v s; what = what.Given (seen s.cpu v) }
+pub bxns_hands : (device : Device) (v : ℕ) (s : State) → is_nonsecure v ≡ true → v % 2 ≡ 0 → bxns device v s ≡ record { state = handed v s; what = what.Given (seen s.cpu v) }
 unfolding bxns
-bxns_hands rom v s h even =
+bxns_hands device v s h even =
     let a : aligned 2 v ≡ v = aligned_twice v even in
     let n : eqb (aligned 2 v) function_return ≡ false = ap (λ x. eqb x function_return) a ∙ (let ne : eqb v function_return ≡ false = grind (arith, nat_tests) in ne) in
     let z : eqb (v % 2) 0 ≡ true = grind (arith, nat_tests) in
-    ap (λ b. cond b (return_to rom s) (cond (eqb (v % 2) 0) (arrived rom (goes_in rom v) v (what.Given (seen s.cpu v)) s) (cond (is_in_rom (v - 1)) (went (record s { cpu = record s.cpu { pc = v - 1 } })) (stopped stop.BadState s)))) n
-    ∙ ap (λ b. cond b (arrived rom (goes_in rom v) v (what.Given (seen s.cpu v)) s) (cond (is_in_rom (v - 1)) (went (record s { cpu = record s.cpu { pc = v - 1 } })) (stopped stop.BadState s))) z
-    ∙ ap (λ g. arrived rom g v (what.Given (seen s.cpu v)) s) (goes_turn rom v h even)
+    ap (λ b. cond b (return_to device s) (cond (eqb (v % 2) 0) (arrived device (goes_in device v) v (what.Given (seen s.cpu v)) s) (cond (is_in_rom (v - 1)) (went (record s { cpu = record s.cpu { pc = v - 1 } })) (stopped stop.BadState s)))) n
+    ∙ ap (λ b. cond b (arrived device (goes_in device v) v (what.Given (seen s.cpu v)) s) (cond (is_in_rom (v - 1)) (went (record s { cpu = record s.cpu { pc = v - 1 } })) (stopped stop.BadState s))) z
+    ∙ ap (λ g. arrived device g v (what.Given (seen s.cpu v)) s) (goes_turn device v h even)
 
 -- a turn without items to a gateway enters
-pub turn_enters : (rom : List ℕ) (t : Turn) (a : ℕ) (s : State) → t.items ≡ [] → aligned 2 t.target ≡ a → is_gateway rom a ≡ true → turn_of rom t s ≡ went (entered a (turned t s.memory.ns_ram s))
+pub turn_enters : (device : Device) (t : Turn) (a : ℕ) (s : State) → t.items ≡ [] → aligned 2 t.target ≡ a → is_gateway device a ≡ true → turn_of device t s ≡ went (entered a (turned t s.memory.ns_ram s))
 unfolding turn_of
-turn_enters rom t a s none e h =
-    ap (λ items. let after = acted items s.memory.ns_ram in unless after.stop (turned t after.ram s) (arrived rom (goes_in rom t.target) (aligned 2 t.target) what.Went (turned t after.ram s))) none
-    ∙ ap (λ g. arrived rom g (aligned 2 t.target) what.Went (turned t s.memory.ns_ram s)) (goes_enter rom t.target a e h)
+turn_enters device t a s none e h =
+    ap (λ items. let after = acted items s.memory.ns_ram in unless after.stop (turned t after.ram s) (arrived device (goes_in device t.target) (aligned 2 t.target) what.Went (turned t after.ram s))) none
+    ∙ ap (λ g. arrived device g (aligned 2 t.target) what.Went (turned t s.memory.ns_ram s)) (goes_enter device t.target a e h)

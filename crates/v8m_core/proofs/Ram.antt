@@ -2,7 +2,7 @@
 use Rattle.std.proofs.Common.{◌≡◌, ℕ, ◌+◌, ◌-◌, ◌<◌, ◌≤◌, ◌⊎◌, Bool, true, false, List, refl, sym, ap, ◌∙◌, subst, ⊎_elim, inl, inr, arith}
 use Rattle.std.specs.Prelude.{◌||◌}
 use Rattle.std.proofs.lemmas.Bool.Decides.{nat_tests}
-use Rattle.ns_types.specs.State.{Memory}
+use Rattle.ns_types.specs.State.{Device, Memory}
 use Rattle.ns_types.specs.Platform.{in_row, lies_in, is_readable, is_writable}
 use Rattle.ns_types.specs.Memory.{IsWhole, word_at, put_word, load, store}
 use Rattle.v8m_core.proofs.Words.{same_word, other_word, length-put_word}
@@ -40,13 +40,13 @@ pub place : (a : ℕ) → is_writable a 4 ≡ true → InNs a ⊎ InSecure a
 unfolding is_writable
 place a h = pick a _ _ refl refl h
 
-load_ns : (a : ℕ) (rom : List ℕ) (m : Memory) → InNs a → load 4 a rom m ≡ word_at m.ns_ram (a - 536870912)
+load_ns : (a : ℕ) (device : Device) (m : Memory) → InNs a → load 4 a device m ≡ word_at m.ns_ram (a - 536870912)
 unfolding load
-load_ns a rom m h = rw (h.secure, h.ns) refl
+load_ns a device m h = rw (h.secure, h.ns) refl
 
-load_secure : (a : ℕ) (rom : List ℕ) (m : Memory) → InSecure a → load 4 a rom m ≡ word_at m.secure_ram (a - 805306368)
+load_secure : (a : ℕ) (device : Device) (m : Memory) → InSecure a → load 4 a device m ≡ word_at m.secure_ram (a - 805306368)
 unfolding load
-load_secure a rom m h = rw h.secure refl
+load_secure a device m h = rw h.secure refl
 
 store_ns : (a v : ℕ) (m : Memory) → InNs a → store 4 a v m ≡ record m { ns_ram = put_word m.ns_ram (a - 536870912) v }
 unfolding store
@@ -57,24 +57,24 @@ unfolding store
 store_secure a v m h = rw h.ns refl
 
 -- the word that was written
-pub load_same : (a v : ℕ) (rom : List ℕ) (m : Memory) → IsWhole m → is_writable a 4 ≡ true → v < 4294967296 → load 4 a rom (store 4 a v m) ≡ v
-load_same a v rom m whole can lt =
+pub load_same : (a v : ℕ) (device : Device) (m : Memory) → IsWhole m → is_writable a 4 ≡ true → v < 4294967296 → load 4 a device (store 4 a v m) ≡ v
+load_same a v device m whole can lt =
     ⊎_elim
-    (λ h. ap (load 4 a rom) (store_ns a v m h) ∙ load_ns a rom (record m { ns_ram = put_word m.ns_ram (a - 536870912) v }) h ∙ same_word m.ns_ram (a - 536870912) v (omega (arith, h.from, h.to, whole.ns_ram)) lt)
-    (λ h. ap (load 4 a rom) (store_secure a v m h) ∙ load_secure a rom (record m { secure_ram = put_word m.secure_ram (a - 805306368) v }) h ∙ same_word m.secure_ram (a - 805306368) v (omega (arith, h.from, h.to, whole.secure_ram)) lt)
+    (λ h. ap (load 4 a device) (store_ns a v m h) ∙ load_ns a device (record m { ns_ram = put_word m.ns_ram (a - 536870912) v }) h ∙ same_word m.ns_ram (a - 536870912) v (omega (arith, h.from, h.to, whole.ns_ram)) lt)
+    (λ h. ap (load 4 a device) (store_secure a v m h) ∙ load_secure a device (record m { secure_ram = put_word m.secure_ram (a - 805306368) v }) h ∙ same_word m.secure_ram (a - 805306368) v (omega (arith, h.from, h.to, whole.secure_ram)) lt)
     (place a can)
 
 -- another word is as it was
-pub load_other : (a b v : ℕ) (rom : List ℕ) (m : Memory) → is_writable a 4 ≡ true → is_writable b 4 ≡ true → (a + 4 ≤ b) ⊎ (b + 4 ≤ a) → load 4 a rom (store 4 b v m) ≡ load 4 a rom m
-load_other a b v rom m can_a can_b apart =
+pub load_other : (a b v : ℕ) (device : Device) (m : Memory) → is_writable a 4 ≡ true → is_writable b 4 ≡ true → (a + 4 ≤ b) ⊎ (b + 4 ≤ a) → load 4 a device (store 4 b v m) ≡ load 4 a device m
+load_other a b v device m can_a can_b apart =
     ⊎_elim
     (λ h. ⊎_elim
-    (λ k. ap (load 4 a rom) (store_ns b v m k) ∙ load_ns a rom (record m { ns_ram = put_word m.ns_ram (b - 536870912) v }) h ∙ other_word m.ns_ram (b - 536870912) (a - 536870912) v (less a b 536870912 h.from k.from apart) ∙ sym (load_ns a rom m h))
-    (λ k. ap (load 4 a rom) (store_secure b v m k) ∙ load_ns a rom (record m { secure_ram = put_word m.secure_ram (b - 805306368) v }) h ∙ sym (load_ns a rom m h))
+    (λ k. ap (load 4 a device) (store_ns b v m k) ∙ load_ns a device (record m { ns_ram = put_word m.ns_ram (b - 536870912) v }) h ∙ other_word m.ns_ram (b - 536870912) (a - 536870912) v (less a b 536870912 h.from k.from apart) ∙ sym (load_ns a device m h))
+    (λ k. ap (load 4 a device) (store_secure b v m k) ∙ load_ns a device (record m { secure_ram = put_word m.secure_ram (b - 805306368) v }) h ∙ sym (load_ns a device m h))
     (place b can_b))
     (λ h. ⊎_elim
-    (λ k. ap (load 4 a rom) (store_ns b v m k) ∙ load_secure a rom (record m { ns_ram = put_word m.ns_ram (b - 536870912) v }) h ∙ sym (load_secure a rom m h))
-    (λ k. ap (load 4 a rom) (store_secure b v m k) ∙ load_secure a rom (record m { secure_ram = put_word m.secure_ram (b - 805306368) v }) h ∙ other_word m.secure_ram (b - 805306368) (a - 805306368) v (less a b 805306368 h.from k.from apart) ∙ sym (load_secure a rom m h))
+    (λ k. ap (load 4 a device) (store_ns b v m k) ∙ load_secure a device (record m { ns_ram = put_word m.ns_ram (b - 536870912) v }) h ∙ sym (load_secure a device m h))
+    (λ k. ap (load 4 a device) (store_secure b v m k) ∙ load_secure a device (record m { secure_ram = put_word m.secure_ram (b - 805306368) v }) h ∙ other_word m.secure_ram (b - 805306368) (a - 805306368) v (less a b 805306368 h.from k.from apart) ∙ sym (load_secure a device m h))
     (place b can_b))
     (place a can_a)
   where

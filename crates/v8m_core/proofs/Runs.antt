@@ -10,13 +10,14 @@ use Rattle.ns_types.specs.declared.goes.Goes.{Goes}
 use Rattle.ns_types.specs.declared.goes.Goes.TheVariants as goes
 use Rattle.ns_types.specs.declared.state.Cpu.{Cpu}
 use Rattle.ns_types.specs.declared.state.Side.TheVariants.{Secure}
-use Rattle.ns_types.specs.State.{State}
+use Rattle.ns_types.specs.State.{Device, State}
 use Rattle.ns_types.specs.Platform.{is_in_rom}
 use Rattle.v8m_core.specs.declared.stepped.Stepped.{Stepped}
 use Rattle.v8m_core.specs.declared.stepped.Stepped.TheVariants as what
 use Rattle.v8m_core.specs.declared.effect.Effect.{Effect}
 use Rattle.v8m_core.specs.declared.effect.Effect.TheVariants as effect
-use Rattle.v8m_core.specs.Step.{Done, went, stopped, unless, fetched, goes_in, seen, arrived, return_stop, return_to, bx, bxns, limit_stop, link, call_stop, called, only_stopped_by, blxns, effect_of, pass, write_register, load_stop, store_stop, push_stop, pop_stop, pushed, popped, special, apply, act, act_or, step_of}
+use Rattle.ns_types.specs.Gateway.{fetched}
+use Rattle.v8m_core.specs.Step.{Done, went, stopped, unless, goes_in, seen, arrived, return_stop, return_to, bx, bxns, limit_stop, link, call_stop, called, only_stopped_by, blxns, effect_of, pass, write_register, load_stop, store_stop, push_stop, pop_stop, pushed, popped, special, apply, act, act_or, step_of}
 use Rattle.v8m_core.specs.Code.{Holds, HasCode, past, Comes, Does}
 
 -- decoding what was encoded
@@ -29,53 +30,53 @@ decode-wide i r s =
     (is_narrow-code_of i r ∙ (let four : size_of i ≡ 4 = ⊎_elim (λ e. absurd (s e)) (λ e. e) (size_of_two_or_four i) in ap (λ n. eqb n 2) four), decode_of-code_of i r)
 
 -- a step at an instruction is that instruction's act
-pub does : (rom : List ℕ) (s : State) (i : Instr) → Holds rom s.cpu.pc i → step_of rom s ≡ act rom i (size_of i) s
+pub does : (device : Device) (s : State) (i : Instr) → Holds device s.cpu.pc i → step_of device s ≡ act device i (size_of i) s
 unfolding step_of
-does rom s i h =
+does device s i h =
     let pc = s.cpu.pc in
-    let wide : Done = cond (is_in_rom (pc + 2)) (act_or rom (decode_of (fetched rom pc) (fetched rom (pc + 2))) s) (stopped stop.BadState s) in
-    let here : step_of rom s ≡ cond (is_narrow (code_of i).first) (act_or rom (decode_of (code_of i).first 0) s) (cond (is_in_rom (pc + 2)) (act_or rom (decode_of (code_of i).first (fetched rom (pc + 2))) s) (stopped stop.BadState s)) =
-    ap (λ t. cond t (cond (is_narrow (fetched rom pc)) (act_or rom (decode_of (fetched rom pc) 0) s) (cond (is_in_rom (pc + 2)) (act_or rom (decode_of (fetched rom pc) (fetched rom (pc + 2))) s) (stopped stop.BadState s))) (stopped stop.BadState s)) h.place
-    ∙ ap (λ a. cond (is_narrow a) (act_or rom (decode_of a 0) s) (cond (is_in_rom (pc + 2)) (act_or rom (decode_of a (fetched rom (pc + 2))) s) (stopped stop.BadState s))) h.first in
+    let wide : Done = cond (is_in_rom (pc + 2)) (act_or device (decode_of (fetched device pc) (fetched device (pc + 2))) s) (stopped stop.BadState s) in
+    let here : step_of device s ≡ cond (is_narrow (code_of i).first) (act_or device (decode_of (code_of i).first 0) s) (cond (is_in_rom (pc + 2)) (act_or device (decode_of (code_of i).first (fetched device (pc + 2))) s) (stopped stop.BadState s)) =
+    ap (λ t. cond t (cond (is_narrow (fetched device pc)) (act_or device (decode_of (fetched device pc) 0) s) (cond (is_in_rom (pc + 2)) (act_or device (decode_of (fetched device pc) (fetched device (pc + 2))) s) (stopped stop.BadState s))) (stopped stop.BadState s)) h.place
+    ∙ ap (λ a. cond (is_narrow a) (act_or device (decode_of a 0) s) (cond (is_in_rom (pc + 2)) (act_or device (decode_of a (fetched device (pc + 2))) s) (stopped stop.BadState s))) h.first in
     ⊎_elim
     (λ two.
     let d = decode-narrow i h.range two in
     here
-    ∙ ap (λ t. cond t (act_or rom (decode_of (code_of i).first 0) s) (cond (is_in_rom (pc + 2)) (act_or rom (decode_of (code_of i).first (fetched rom (pc + 2))) s) (stopped stop.BadState s))) d.0
-    ∙ ap (λ o. act_or rom o s) d.1 ∙ ap (λ n. act rom i n s) (sym two))
+    ∙ ap (λ t. cond t (act_or device (decode_of (code_of i).first 0) s) (cond (is_in_rom (pc + 2)) (act_or device (decode_of (code_of i).first (fetched device (pc + 2))) s) (stopped stop.BadState s))) d.0
+    ∙ ap (λ o. act_or device o s) d.1 ∙ ap (λ n. act device i n s) (sym two))
     (λ four.
     let ne : size_of i ≢ 2 = λ e. omega arith in
     let d = decode-wide i h.range ne in
-    let second = ⊎_elim {C = (is_in_rom (pc + 2) ≡ true) × (fetched rom (pc + 2) ≡ (code_of i).second)} (λ two. absurd (ne two)) (λ x. x) h.second in
+    let second = ⊎_elim {C = (is_in_rom (pc + 2) ≡ true) × (fetched device (pc + 2) ≡ (code_of i).second)} (λ two. absurd (ne two)) (λ x. x) h.second in
     here
-    ∙ ap (λ t. cond t (act_or rom (decode_of (code_of i).first 0) s) (cond (is_in_rom (pc + 2)) (act_or rom (decode_of (code_of i).first (fetched rom (pc + 2))) s) (stopped stop.BadState s))) d.0
-    ∙ ap (λ t. cond t (act_or rom (decode_of (code_of i).first (fetched rom (pc + 2))) s) (stopped stop.BadState s)) second.0
-    ∙ ap (λ b. act_or rom (decode_of (code_of i).first b) s) second.1
-    ∙ ap (λ o. act_or rom o s) d.1)
+    ∙ ap (λ t. cond t (act_or device (decode_of (code_of i).first 0) s) (cond (is_in_rom (pc + 2)) (act_or device (decode_of (code_of i).first (fetched device (pc + 2))) s) (stopped stop.BadState s))) d.0
+    ∙ ap (λ t. cond t (act_or device (decode_of (code_of i).first (fetched device (pc + 2))) s) (stopped stop.BadState s)) second.0
+    ∙ ap (λ b. act_or device (decode_of (code_of i).first b) s) second.1
+    ∙ ap (λ o. act_or device o s) d.1)
     (size_of_two_or_four i)
 
-pub comes_on : (rom : List ℕ) (m n : ℕ) (s t u : State) → Comes rom m s t → Comes rom n t u → Comes rom (m + n) s u
-comes_on rom zero n s t u a b =
+pub comes_on : (device : Device) (m n : ℕ) (s t u : State) → Comes device m s t → Comes device n t u → Comes device (m + n) s u
+comes_on device zero n s t u a b =
     let e : n ≡ 0 + n = omega arith in
-    subst (λ k. Comes rom k s u) e (subst (λ x. Comes rom n x u) (sym a) b)
-comes_on rom (suc m) n s t u a b =
+    subst (λ k. Comes device k s u) e (subst (λ x. Comes device n x u) (sym a) b)
+comes_on device (suc m) n s t u a b =
     let e : suc (m + n) ≡ suc m + n = omega arith in
-    subst (λ k. Comes rom k s u) e (a.0, a.1, comes_on rom m n a.0 t u a.2 b)
+    subst (λ k. Comes device k s u) e (a.0, a.1, comes_on device m n a.0 t u a.2 b)
 
 -- code in a row is executed
-pub straight : (rom : List ℕ) (is : List Instr) (s t : State) → HasCode rom s.cpu.pc is → Does rom is s t → Comes rom (length is) s t
-straight rom [] s t has d = d
-straight rom (i ∷ []) s t has d = (d.0, does rom s i has.0 ∙ d.1, d.3)
-straight rom (i ∷ j ∷ is) s t has d =
-    (d.0, does rom s i has.0 ∙ d.1, straight rom (j ∷ is) d.0 t (subst (λ p. HasCode rom p (j ∷ is)) (sym d.2) has.1) d.3)
+pub straight : (device : Device) (is : List Instr) (s t : State) → HasCode device s.cpu.pc is → Does device is s t → Comes device (length is) s t
+straight device [] s t has d = d
+straight device (i ∷ []) s t has d = (d.0, does device s i has.0 ∙ d.1, d.3)
+straight device (i ∷ j ∷ is) s t has d =
+    (d.0, does device s i has.0 ∙ d.1, straight device (j ∷ is) d.0 t (subst (λ p. HasCode device p (j ∷ is)) (sym d.2) has.1) d.3)
 
-pub has_front : (rom : List ℕ) (pc : ℕ) (a b : List Instr) → HasCode rom pc (a ++ b) → HasCode rom pc a
-has_front rom pc [] b h = tt
-has_front rom pc (i ∷ a) b h = (h.0, has_front rom (pc + size_of i) a b h.1)
+pub has_front : (device : Device) (pc : ℕ) (a b : List Instr) → HasCode device pc (a ++ b) → HasCode device pc a
+has_front device pc [] b h = tt
+has_front device pc (i ∷ a) b h = (h.0, has_front device (pc + size_of i) a b h.1)
 
-pub has_back : (rom : List ℕ) (pc : ℕ) (a b : List Instr) → HasCode rom pc (a ++ b) → HasCode rom (past pc a) b
-has_back rom pc [] b h = h
-has_back rom pc (i ∷ a) b h = has_back rom (pc + size_of i) a b h.1
+pub has_back : (device : Device) (pc : ℕ) (a b : List Instr) → HasCode device pc (a ++ b) → HasCode device (past pc a) b
+has_back device pc [] b h = h
+has_back device pc (i ∷ a) b h = has_back device (pc + size_of i) a b h.1
 
 -- A step of Secure code that goes on stays in Secure state.
 record Stays (d : Done) : Type 0 where
@@ -95,27 +96,27 @@ stays_cond : (b : Bool) (d e : Done) → Stays d → Stays e → Stays (cond b d
 stays_cond true d e x y = x
 stays_cond false d e x y = y
 
-stays_return : (rom : List ℕ) (s : State) → Stays (return_to rom s)
+stays_return : (device : Device) (s : State) → Stays (return_to device s)
 unfolding return_to
-stays_return rom s = stays_unless (return_stop rom s) s _ (stays_went _ refl)
+stays_return device s = stays_unless (return_stop device s) s _ (stays_went _ refl)
 
-stays_arrived : (rom : List ℕ) (g : Goes) (a : ℕ) (show : Stepped) (s : State) → show ≢ what.Went → Stays (arrived rom g a show s)
-stays_arrived rom (goes.Enter e) a show s ne = stays_went _ refl
-stays_arrived rom goes.Return a show s ne = stays_return rom s
-stays_arrived rom goes.Turn a show s ne = record { side = λ e. absurd (ne e) }
-stays_arrived rom goes.EntryPoint a show s ne = stays_stopped stop.EntryPoint s
-stays_arrived rom goes.Astray a show s ne = stays_stopped stop.Astray s
+stays_arrived : (device : Device) (g : Goes) (a : ℕ) (show : Stepped) (s : State) → show ≢ what.Went → Stays (arrived device g a show s)
+stays_arrived device (goes.Enter e) a show s ne = stays_went _ refl
+stays_arrived device goes.Return a show s ne = stays_return device s
+stays_arrived device goes.Turn a show s ne = record { side = λ e. absurd (ne e) }
+stays_arrived device goes.EntryPoint a show s ne = stays_stopped stop.EntryPoint s
+stays_arrived device goes.Astray a show s ne = stays_stopped stop.Astray s
 
-stays_bxns : (rom : List ℕ) (v : ℕ) (s : State) → s.cpu.side ≡ Secure → Stays (bxns rom v s)
+stays_bxns : (device : Device) (v : ℕ) (s : State) → s.cpu.side ≡ Secure → Stays (bxns device v s)
 unfolding bxns
-stays_bxns rom v s h =
-    stays_cond _ _ _ (stays_return rom s)
-    (stays_cond _ _ _ (stays_arrived rom (goes_in rom v) v (what.Given (seen s.cpu v)) s (λ e. cc))
+stays_bxns device v s h =
+    stays_cond _ _ _ (stays_return device s)
+    (stays_cond _ _ _ (stays_arrived device (goes_in device v) v (what.Given (seen s.cpu v)) s (λ e. cc))
     (stays_cond _ _ _ (stays_went _ h) (stays_stopped stop.BadState s)))
 
-stays_bx : (rom : List ℕ) (v : ℕ) (s : State) → s.cpu.side ≡ Secure → Stays (bx rom v s)
+stays_bx : (device : Device) (v : ℕ) (s : State) → s.cpu.side ≡ Secure → Stays (bx device v s)
 unfolding bx
-stays_bx rom v s h = stays_cond _ _ _ (stays_return rom s) (stays_cond _ _ _ (stays_went _ h) (stays_stopped stop.BadState s))
+stays_bx device v s h = stays_cond _ _ _ (stays_return device s) (stays_cond _ _ _ (stays_went _ h) (stays_stopped stop.BadState s))
 
 stays_only : (w : Stepped) (s : State) (d : Done) → Stays d → Stays (only_stopped_by w s d)
 stays_only what.Went s d h = h
@@ -123,12 +124,12 @@ stays_only (what.Wrote at size value) s d h = h
 stays_only (what.Given view) s d h = h
 stays_only (what.Stopped x) s d h = stays_stopped x s
 
-stays_blxns : (rom : List ℕ) (v size : ℕ) (s : State) → s.cpu.side ≡ Secure → Stays (blxns rom v size s)
+stays_blxns : (device : Device) (v size : ℕ) (s : State) → s.cpu.side ≡ Secure → Stays (blxns device v size s)
 unfolding blxns
-stays_blxns rom v size s h =
+stays_blxns device v size s h =
     let t = called (link size s.cpu) s in
     stays_cond _ _ _
-    (stays_unless (call_stop s.cpu) s _ (stays_only _ s _ (stays_arrived rom (goes_in rom v) v (what.Given (seen t.cpu v)) t (λ e. cc))))
+    (stays_unless (call_stop s.cpu) s _ (stays_only _ s _ (stays_arrived device (goes_in device v) v (what.Given (seen t.cpu v)) t (λ e. cc))))
     (stays_cond _ _ _ (stays_went _ h) (stays_stopped stop.BadState s))
 
 record IsSecure (c : Cpu) : Type 0 where
@@ -146,37 +147,37 @@ special_secure k v c h =
     (secure_cond (eqb k 10) _ _ (record { by = h })
     (secure_cond (eqb k 11) _ _ (record { by = h }) (secure_cond (eqb k 136) _ _ (record { by = h }) (record { by = h }))))))
 
-stays_apply : (rom : List ℕ) (e : Effect) (size : ℕ) (s : State) → s.cpu.side ≡ Secure → Stays (apply rom e size s)
+stays_apply : (device : Device) (e : Effect) (size : ℕ) (s : State) → s.cpu.side ≡ Secure → Stays (apply device e size s)
 unfolding apply write_register pushed popped
-stays_apply rom effect.Pass size s h = stays_went _ h
-stays_apply rom (effect.Stop x) size s h = stays_stopped x s
-stays_apply rom (effect.Put d v) size s h = stays_cond _ _ _ (stays_unless (limit_stop v s.cpu) s _ (stays_went _ h)) (stays_went _ h)
-stays_apply rom (effect.Load t a n) size s h = stays_unless (load_stop a n) s _ (stays_went _ h)
-stays_apply rom (effect.LoadSigned t a n) size s h = stays_unless (load_stop a n) s _ (stays_went _ h)
-stays_apply rom (effect.Store a n v) size s h = stays_unless (store_stop a n) s _ (record { side = λ e. h })
-stays_apply rom (effect.Push list) size s h = stays_unless (push_stop list s.cpu) s _ (stays_went _ h)
-stays_apply rom (effect.Pop list) size s h = stays_unless (pop_stop list s.cpu) s _ (stays_went _ h)
-stays_apply rom (effect.Flags flags) size s h = stays_went _ h
-stays_apply rom (effect.Jump a) size s h = stays_went _ h
-stays_apply rom (effect.Call a) size s h = stays_went _ h
-stays_apply rom (effect.Special k v) size s h = stays_went _ ((special_secure k v (pass size s).cpu h).by)
-stays_apply rom (effect.Bx v) size s h = stays_bx rom v s h
-stays_apply rom (effect.Bxns v) size s h = stays_bxns rom v s h
-stays_apply rom (effect.Blxns v) size s h = stays_blxns rom v size s h
+stays_apply device effect.Pass size s h = stays_went _ h
+stays_apply device (effect.Stop x) size s h = stays_stopped x s
+stays_apply device (effect.Put d v) size s h = stays_cond _ _ _ (stays_unless (limit_stop v s.cpu) s _ (stays_went _ h)) (stays_went _ h)
+stays_apply device (effect.Load t a n) size s h = stays_unless (load_stop a n) s _ (stays_went _ h)
+stays_apply device (effect.LoadSigned t a n) size s h = stays_unless (load_stop a n) s _ (stays_went _ h)
+stays_apply device (effect.Store a n v) size s h = stays_unless (store_stop a n) s _ (record { side = λ e. h })
+stays_apply device (effect.Push list) size s h = stays_unless (push_stop list s.cpu) s _ (stays_went _ h)
+stays_apply device (effect.Pop list) size s h = stays_unless (pop_stop list s.cpu) s _ (stays_went _ h)
+stays_apply device (effect.Flags flags) size s h = stays_went _ h
+stays_apply device (effect.Jump a) size s h = stays_went _ h
+stays_apply device (effect.Call a) size s h = stays_went _ h
+stays_apply device (effect.Special k v) size s h = stays_went _ ((special_secure k v (pass size s).cpu h).by)
+stays_apply device (effect.Bx v) size s h = stays_bx device v s h
+stays_apply device (effect.Bxns v) size s h = stays_bxns device v s h
+stays_apply device (effect.Blxns v) size s h = stays_blxns device v size s h
 
-stays_act : (rom : List ℕ) (o : Option Decoded) (s : State) → s.cpu.side ≡ Secure → Stays (act_or rom o s)
-stays_act rom None s h = stays_stopped stop.Undefined s
-stays_act rom (Some d) s h = stays_apply rom (effect_of d.instr s.cpu) d.size s h
+stays_act : (device : Device) (o : Option Decoded) (s : State) → s.cpu.side ≡ Secure → Stays (act_or device o s)
+stays_act device None s h = stays_stopped stop.Undefined s
+stays_act device (Some d) s h = stays_apply device (effect_of d.instr s.cpu) d.size s h
 
-stays_step : (rom : List ℕ) (s : State) → s.cpu.side ≡ Secure → Stays (step_of rom s)
+stays_step : (device : Device) (s : State) → s.cpu.side ≡ Secure → Stays (step_of device s)
 unfolding step_of
-stays_step rom s h =
+stays_step device s h =
     let pc = s.cpu.pc in
     stays_cond (is_in_rom pc) _ _
-    (stays_cond (is_narrow (fetched rom pc)) _ _ (stays_act rom (decode_of (fetched rom pc) 0) s h)
-    (stays_cond (is_in_rom (pc + 2)) _ _ (stays_act rom (decode_of (fetched rom pc) (fetched rom (pc + 2))) s h) (stays_stopped stop.BadState s)))
+    (stays_cond (is_narrow (fetched device pc)) _ _ (stays_act device (decode_of (fetched device pc) 0) s h)
+    (stays_cond (is_in_rom (pc + 2)) _ _ (stays_act device (decode_of (fetched device pc) (fetched device (pc + 2))) s h) (stays_stopped stop.BadState s)))
     (stays_stopped stop.BadState s)
 
-pub stays : (rom : List ℕ) (s t : State) → s.cpu.side ≡ Secure → step_of rom s ≡ went t → t.cpu.side ≡ Secure
-stays rom s t h e =
-    sym (ap (λ (d : Done). d.state.cpu.side) e) ∙ (stays_step rom s h).side (ap (λ (d : Done). d.what) e)
+pub stays : (device : Device) (s t : State) → s.cpu.side ≡ Secure → step_of device s ≡ went t → t.cpu.side ≡ Secure
+stays device s t h e =
+    sym (ap (λ (d : Done). d.state.cpu.side) e) ∙ (stays_step device s h).side (ap (λ (d : Done). d.what) e)

@@ -3,10 +3,11 @@ use Rattle.std.proofs.Common.{◌≡◌, ◌+◌, ℕ, true, false, List, refl, 
 use Rattle.std.specs.Prelude.{option_map}
 use Rattle.v8m_isa.specs.declared.instr.Instr.{Instr}
 use Rattle.v8m_isa.specs.Table.{Decoded, decode_of, is_narrow, pair_of}
-use Rattle.ns_types.specs.State.{State}
+use Rattle.ns_types.specs.State.{Device, State}
 use Rattle.ns_types.specs.Platform.{is_in_rom}
 use Rattle.cm_base.specs.declared.stop.Stop.TheVariants as stop
-use Rattle.v8m_core.specs.Step.{fetched, act_or, step_of, stopped}
+use Rattle.ns_types.specs.Gateway.{fetched}
+use Rattle.v8m_core.specs.Step.{act_or, step_of, stopped}
 
 -- what was decoded, by the pair that the code has
 pub read_none : (o : Option Decoded) → None ≡ option_map pair_of o → o ≡ None
@@ -20,18 +21,18 @@ read_some (Some d) i n e =
     ap (λ q. Some (record { instr = q.0; size = q.1 })) (sym p)
 
 -- a step at an address of ROM, by what is read there
-pub step_narrow : (rom : List ℕ) (at first : ℕ) → is_in_rom at ≡ true → first ≡ fetched rom at → is_narrow first ≡ true → (s : State) → s.cpu.pc ≡ at → step_of rom s ≡ act_or rom (decode_of first 0) s
+pub step_narrow : (device : Device) (at first : ℕ) → is_in_rom at ≡ true → first ≡ fetched device at → is_narrow first ≡ true → (s : State) → s.cpu.pc ≡ at → step_of device s ≡ act_or device (decode_of first 0) s
 unfolding step_of
-step_narrow rom at first place is narrow s pc = rw (pc, place, sym is, narrow) refl
+step_narrow device at first place is narrow s pc = rw (pc, place, sym is, narrow) refl
 
-pub step_wide : (rom : List ℕ) (at first second : ℕ) → is_in_rom at ≡ true → first ≡ fetched rom at → is_narrow first ≡ false → is_in_rom (at + 2) ≡ true → second ≡ fetched rom (at + 2) → (s : State) → s.cpu.pc ≡ at → step_of rom s ≡ act_or rom (decode_of first second) s
+pub step_wide : (device : Device) (at first second : ℕ) → is_in_rom at ≡ true → first ≡ fetched device at → is_narrow first ≡ false → is_in_rom (at + 2) ≡ true → second ≡ fetched device (at + 2) → (s : State) → s.cpu.pc ≡ at → step_of device s ≡ act_or device (decode_of first second) s
 unfolding step_of
-step_wide rom at first second place is narrow behind is2 s pc = rw (pc, place, sym is, narrow, behind, sym is2) refl
+step_wide device at first second place is narrow behind is2 s pc = rw (pc, place, sym is, narrow, behind, sym is2) refl
 
-pub step_short : (rom : List ℕ) (at first : ℕ) → is_in_rom at ≡ true → first ≡ fetched rom at → is_narrow first ≡ false → is_in_rom (at + 2) ≡ false → (s : State) → s.cpu.pc ≡ at → step_of rom s ≡ stopped stop.BadState s
+pub step_short : (device : Device) (at first : ℕ) → is_in_rom at ≡ true → first ≡ fetched device at → is_narrow first ≡ false → is_in_rom (at + 2) ≡ false → (s : State) → s.cpu.pc ≡ at → step_of device s ≡ stopped stop.BadState s
 unfolding step_of
-step_short rom at first place is narrow behind s pc = rw (pc, place, sym is, narrow, behind) refl
+step_short device at first place is narrow behind s pc = rw (pc, place, sym is, narrow, behind) refl
 
-pub step_out : (rom : List ℕ) (s : State) (at : ℕ) → s.cpu.pc ≡ at → is_in_rom at ≡ false → step_of rom s ≡ stopped stop.BadState s
+pub step_out : (device : Device) (s : State) (at : ℕ) → s.cpu.pc ≡ at → is_in_rom at ≡ false → step_of device s ≡ stopped stop.BadState s
 unfolding step_of
-step_out rom s at pc place = rw (pc, place) refl
+step_out device s at pc place = rw (pc, place) refl

@@ -1,7 +1,7 @@
 -- The registers of a list, which STMDB stores and LDMIA loads, a word each, the lowest at the lowest address.
 use Rattle.std.specs.Prelude.{ℕ, ◌+◌, ◌/◌, ◌%◌, ◌^◌, Bool, true, cond, ◌&&◌, eqb, ltb, List, [], ◌∷◌}
 use Rattle.ns_types.specs.declared.state.Regs.{Regs}
-use Rattle.ns_types.specs.State.{get_of, set_of, Memory}
+use Rattle.ns_types.specs.State.{Device, get_of, set_of, Memory}
 use Rattle.ns_types.specs.Platform.{is_readable, is_writable}
 use Rattle.ns_types.specs.Memory.{load, store}
 
@@ -37,6 +37,6 @@ unfoldable pub all_stored : ℕ → List ℕ → Regs → ℕ → Memory → Mem
 all_stored list [] r a m = m
 all_stored list (n ∷ ns) r a m = cond (in_list list n) (all_stored list ns r (next a) (store 4 a (get_of r n) m)) (all_stored list ns r a m)
 
-unfoldable pub all_loaded : ℕ → List ℕ → List ℕ → Memory → ℕ → Regs → Regs
-all_loaded list [] rom m a r = r
-all_loaded list (n ∷ ns) rom m a r = cond (in_list list n) (all_loaded list ns rom m (next a) (set_of r n (load 4 a rom m))) (all_loaded list ns rom m a r)
+unfoldable pub all_loaded : ℕ → List ℕ → Device → Memory → ℕ → Regs → Regs
+all_loaded list [] device m a r = r
+all_loaded list (n ∷ ns) device m a r = cond (in_list list n) (all_loaded list ns device m (next a) (set_of r n (load 4 a device m))) (all_loaded list ns device m a r)

@@ -3,15 +3,14 @@ use Rattle.std.specs.Prelude.{ℕ, List}
 use Rattle.ns_types.specs.declared.state.Cpu.{Cpu}
 use Rattle.ns_types.specs.declared.state.Side.TheVariants.{Secure}
 use Rattle.ns_types.specs.declared.turn.Start.{Start}
-use Rattle.ns_types.specs.State.{State}
+use Rattle.ns_types.specs.State.{Device, State}
 use Rattle.ns_types.specs.Platform.{aligned}
-use Rattle.ns_types.specs.Memory.{word_at}
-use Rattle.v8m_mem.specs.Rows.{memory_of}
+use Rattle.ns_types.specs.Memory.{word_at, memory_of}
 
 -- The first word of Secure ROM is the main stack pointer, which has no low two bits, and the second the reset
 -- address, without bit 0. All other registers are 0 but LR.
-abbrev pub reset_cpu : List ℕ → Cpu
-reset_cpu rom = record {
+abbrev pub reset_cpu : Device → Cpu
+reset_cpu device = record {
   side = Secure;
   regs = record {
     r0 = 0;
@@ -27,10 +26,10 @@ reset_cpu rom = record {
     r10 = 0;
     r11 = 0;
     r12 = 0;
-    sp = aligned 4 (word_at rom 0);
-    lr = 4294967295;
+    sp = aligned 4 (word_at device.rom 0);
+    lr = 0xFFFFFFFF;
   };
-  pc = aligned 2 (word_at rom 4);
+  pc = aligned 2 (word_at device.rom 4);
   nzcvq = 0;
   psp = 0;
   msplim = 0;
@@ -39,5 +38,5 @@ reset_cpu rom = record {
   psp_ns = 0;
 }
 
-abbrev pub reset_of : List ℕ → Start → State
-reset_of rom start = record { cpu = reset_cpu rom; memory = memory_of start }
+abbrev pub reset_of : Device → Start → State
+reset_of device start = record { cpu = reset_cpu device; memory = memory_of start }

@@ -9,10 +9,11 @@ use Rattle.ns_types.specs.declared.goes.Goes.TheVariants as goes
 use Rattle.ns_types.specs.declared.state.Cpu.{Cpu}
 use Rattle.ns_types.specs.declared.state.Side.TheVariants.{Secure, NonSecure, Stopped}
 use Rattle.ns_types.specs.declared.turn.View.{View}
-use Rattle.ns_types.specs.declared.turn.Turn.{Turn}
-use Rattle.ns_types.specs.State.{set_of, State}
+use Rattle.ns_types.specs.Turns.{Turn}
+use Rattle.ns_types.specs.State.{Device, set_of, State}
 use Rattle.ns_types.specs.Platform.{row, in_row, lies_in, is_readable, is_writable, is_in_rom, aligned}
 use Rattle.ns_types.specs.Memory.{half_at, load, store}
+use Rattle.ns_types.specs.Gateway.{fetched, gateway_at}
 use Rattle.ns_types.specs.Boundary.{function_return, goes_of, acted}
 use Rattle.v8m_core.specs.Values.{sum32, difference32, signed_byte, signed_half}
 use Rattle.v8m_core.specs.Effects.{effect_or, moved, computed, bitwise, accessed, branched, named}
@@ -45,19 +46,8 @@ or_stop (Some x) b = Some x
 
 -- The gates (DDI0553: SG, BXNS, function return)
 
--- the halfword of Secure ROM at an address
-abbrev pub fetched : List ℕ → ℕ → ℕ
-fetched rom a = half_at rom (a - (row 2).from)
-
--- a Secure gateway stands at an address: SG within the Non-secure callable region
-unfoldable pub is_gateway : List ℕ → ℕ → Bool
-is_gateway rom a = lies_in 3 a 4 && (eqb (fetched rom a) 59775 && eqb (fetched rom (a + 2)) 59775)
-
-abbrev pub gateway_at : List ℕ → ℕ → Option ℕ
-gateway_at rom a = cond (is_gateway rom a) (Some a) None
-
-unfoldable pub goes_in : List ℕ → ℕ → Goes
-goes_in rom t = goes_of (gateway_at rom) t
+unfoldable pub goes_in : Device → ℕ → Goes
+goes_in device t = goes_of (gateway_at device) t
 
 -- all that Non-secure code sees of the registers
 abbrev pub seen : Cpu → ℕ → View
@@ -89,36 +79,36 @@ returned a s = record s { cpu = record s.cpu { side = Secure; regs = record s.cp
 
 -- Why a function return stops, if it does, in the order of its tests: SP, the two words, the low nine bits of
 -- the second word, the place of the first.
-unfoldable pub return_stop : List ℕ → State → Option Stop
-return_stop rom s =
+unfoldable pub return_stop : Device → State → Option Stop
+return_stop device s =
     let sp = s.cpu.regs.sp in
     cond (not (eqb (sp % 8) 0)) (Some stop.BadState)
     (cond (not (is_readable sp 4 && is_readable (sp + 4) 4)) (Some stop.Unmapped)
-    (cond (not (eqb (load 4 (sp + 4) rom s.memory % 512) 0)) (Some stop.ReturnFault)
-    (cond (not (is_in_rom (aligned 2 (load 4 sp rom s.memory)))) (Some stop.BadState) None)))
+    (cond (not (eqb (load 4 (sp + 4) device s.memory % 512) 0)) (Some stop.ReturnFault)
+    (cond (not (is_in_rom (aligned 2 (load 4 sp device s.memory)))) (Some stop.BadState) None)))
 
-unfoldable pub return_to : List ℕ → State → Done
-return_to rom s = unless (return_stop rom s) s (went (returned (aligned 2 (load 4 s.cpu.regs.sp rom s.memory)) s))
+unfoldable pub return_to : Device → State → Done
+return_to device s = unless (return_stop device s) s (went (returned (aligned 2 (load 4 s.cpu.regs.sp device s.memory)) s))
 
 -- A branch in Non-secure state, or from Secure to Non-secure state, to an address: show says what a hand-over is.
-abbrev pub arrived : List ℕ → Goes → ℕ → Stepped → State → Done
-arrived rom (goes.Enter e) a show s = went (entered e s)
-arrived rom goes.Return a show s = return_to rom s
-arrived rom goes.Turn a show s = record { state = handed a s; what = show }
-arrived rom goes.EntryPoint a show s = stopped stop.EntryPoint s
-arrived rom goes.Astray a show s = stopped stop.Astray s
+abbrev pub arrived : Device → Goes → ℕ → Stepped → State → Done
+arrived device (goes.Enter e) a show s = went (entered e s)
+arrived device goes.Return a show s = return_to device s
+arrived device goes.Turn a show s = record { state = handed a s; what = show }
+arrived device goes.EntryPoint a show s = stopped stop.EntryPoint s
+arrived device goes.Astray a show s = stopped stop.Astray s
 
 -- BXNS (DDI0553, BXNS): a function return; or with bit 0 set a branch in Secure state; or Non-secure state
-unfoldable pub bxns : List ℕ → ℕ → State → Done
-bxns rom v s =
-    cond (eqb (aligned 2 v) function_return) (return_to rom s)
-    (cond (eqb (v % 2) 0) (arrived rom (goes_in rom v) v (what.Given (seen s.cpu v)) s)
+unfoldable pub bxns : Device → ℕ → State → Done
+bxns device v s =
+    cond (eqb (aligned 2 v) function_return) (return_to device s)
+    (cond (eqb (v % 2) 0) (arrived device (goes_in device v) v (what.Given (seen s.cpu v)) s)
     (cond (is_in_rom (v - 1)) (went (record s { cpu = record s.cpu { pc = v - 1 } })) (stopped stop.BadState s)))
 
 -- BX (DDI0553, BX): a function return, or a branch in Secure state, whose target has bit 0 set
-unfoldable pub bx : List ℕ → ℕ → State → Done
-bx rom v s =
-    cond (eqb (aligned 2 v) function_return) (return_to rom s)
+unfoldable pub bx : Device → ℕ → State → Done
+bx device v s =
+    cond (eqb (aligned 2 v) function_return) (return_to device s)
     (cond (not (eqb (v % 2) 0) && is_in_rom (v - 1)) (went (record s { cpu = record s.cpu { pc = v - 1 } })) (stopped stop.BadState s))
 
 -- A new number for SP stops where it is below MSPLIM; its low two bits are lost.
@@ -152,14 +142,14 @@ abbrev pub only_stopped : State → Done → Done
 only_stopped s d = only_stopped_by d.what s d
 
 -- the branch to Non-secure state of such a call
-abbrev pub called_at : List ℕ → ℕ → State → Done
-called_at rom v t = arrived rom (goes_in rom v) v (what.Given (seen t.cpu v)) t
+abbrev pub called_at : Device → ℕ → State → Done
+called_at device v t = arrived device (goes_in device v) v (what.Given (seen t.cpu v)) t
 
 -- BLXNS (DDI0553, BLXNS): with bit 0 set a call in Secure state, else one of Non-secure code
-unfoldable pub blxns : List ℕ → ℕ → ℕ → State → Done
-blxns rom v size s =
+unfoldable pub blxns : Device → ℕ → ℕ → State → Done
+blxns device v size s =
     cond (eqb (v % 2) 0)
-    (unless (call_stop s.cpu) s (only_stopped s (called_at rom v (called (link size s.cpu) s))))
+    (unless (call_stop s.cpu) s (only_stopped s (called_at device v (called (link size s.cpu) s))))
     (cond (is_in_rom (v - 1)) (went (record s { cpu = record s.cpu { regs = record s.cpu.regs { lr = link size s.cpu }; pc = v - 1 } })) (stopped stop.BadState s))
 
 -- What each instruction does
@@ -221,9 +211,9 @@ pushed list size s =
     let sp = pushed_sp list s.cpu in
     record { cpu = record s.cpu { regs = record s.cpu.regs { sp = aligned 4 sp }; pc = s.cpu.pc + size }; memory = all_stored list registers s.cpu.regs sp s.memory }
 
-unfoldable pub popped : List ℕ → ℕ → ℕ → State → State
-popped rom list size s =
-    let regs = all_loaded list registers rom s.memory s.cpu.regs.sp s.cpu.regs in
+unfoldable pub popped : Device → ℕ → ℕ → State → State
+popped device list size s =
+    let regs = all_loaded list registers device s.memory s.cpu.regs.sp s.cpu.regs in
     record s { cpu = record s.cpu { regs = record regs { sp = aligned 4 (popped_sp list s.cpu) }; pc = s.cpu.pc + size } }
 
 -- MSR by the number of the special register: a stack pointer loses its low two bits, and a limit its low three
@@ -237,39 +227,39 @@ special k v c =
     (cond (eqb k 136) (record c { msp_ns = aligned 4 v }) (record c { psp_ns = aligned 4 v }))))))
 
 -- an effect on the state, of an instruction of this size
-unfoldable pub apply : List ℕ → Effect → ℕ → State → Done
-apply rom effect.Pass size s = went (pass size s)
-apply rom (effect.Stop x) size s = stopped x s
-apply rom (effect.Put d v) size s = write_register size d v s
-apply rom (effect.Load t a n) size s = unless (load_stop a n) s (went (put size t (load n a rom s.memory) s))
-apply rom (effect.LoadSigned t a n) size s = unless (load_stop a n) s (went (put size t (signed n (load n a rom s.memory)) s))
-apply rom (effect.Store a n v) size s = unless (store_stop a n) s (stored size a n v s)
-apply rom (effect.Jump a) size s = went (record s { cpu = record s.cpu { pc = a } })
-apply rom (effect.Push list) size s = unless (push_stop list s.cpu) s (went (pushed list size s))
-apply rom (effect.Pop list) size s = unless (pop_stop list s.cpu) s (went (popped rom list size s))
-apply rom (effect.Flags flags) size s = went (record s { cpu = record (pass size s).cpu { nzcvq = flags } })
-apply rom (effect.Call a) size s = went (record s { cpu = record s.cpu { regs = record s.cpu.regs { lr = link size s.cpu }; pc = a } })
-apply rom (effect.Special k v) size s = went (record s { cpu = special k v (pass size s).cpu })
-apply rom (effect.Bx v) size s = bx rom v s
-apply rom (effect.Bxns v) size s = bxns rom v s
-apply rom (effect.Blxns v) size s = blxns rom v size s
+unfoldable pub apply : Device → Effect → ℕ → State → Done
+apply device effect.Pass size s = went (pass size s)
+apply device (effect.Stop x) size s = stopped x s
+apply device (effect.Put d v) size s = write_register size d v s
+apply device (effect.Load t a n) size s = unless (load_stop a n) s (went (put size t (load n a device s.memory) s))
+apply device (effect.LoadSigned t a n) size s = unless (load_stop a n) s (went (put size t (signed n (load n a device s.memory)) s))
+apply device (effect.Store a n v) size s = unless (store_stop a n) s (stored size a n v s)
+apply device (effect.Jump a) size s = went (record s { cpu = record s.cpu { pc = a } })
+apply device (effect.Push list) size s = unless (push_stop list s.cpu) s (went (pushed list size s))
+apply device (effect.Pop list) size s = unless (pop_stop list s.cpu) s (went (popped device list size s))
+apply device (effect.Flags flags) size s = went (record s { cpu = record (pass size s).cpu { nzcvq = flags } })
+apply device (effect.Call a) size s = went (record s { cpu = record s.cpu { regs = record s.cpu.regs { lr = link size s.cpu }; pc = a } })
+apply device (effect.Special k v) size s = went (record s { cpu = special k v (pass size s).cpu })
+apply device (effect.Bx v) size s = bx device v s
+apply device (effect.Bxns v) size s = bxns device v s
+apply device (effect.Blxns v) size s = blxns device v size s
 
 -- an instruction of this size
-abbrev pub act : List ℕ → Instr → ℕ → State → Done
-act rom i size s = apply rom (effect_of i s.cpu) size s
+abbrev pub act : Device → Instr → ℕ → State → Done
+act device i size s = apply device (effect_of i s.cpu) size s
 
-abbrev pub act_or : List ℕ → Option Decoded → State → Done
-act_or rom None s = stopped stop.Undefined s
-act_or rom (Some d) s = act rom d.instr d.size s
+abbrev pub act_or : Device → Option Decoded → State → Done
+act_or device None s = stopped stop.Undefined s
+act_or device (Some d) s = act device d.instr d.size s
 
 -- One step in Secure state: the halfword at the program counter; where it is no whole instruction, the one
 -- behind it too; and what they are.
-unfoldable pub step_of : List ℕ → State → Done
-step_of rom s =
+unfoldable pub step_of : Device → State → Done
+step_of device s =
     let pc = s.cpu.pc in
     cond (is_in_rom pc)
-    (cond (is_narrow (fetched rom pc)) (act_or rom (decode_of (fetched rom pc) 0) s)
-    (cond (is_in_rom (pc + 2)) (act_or rom (decode_of (fetched rom pc) (fetched rom (pc + 2))) s) (stopped stop.BadState s)))
+    (cond (is_narrow (fetched device pc)) (act_or device (decode_of (fetched device pc) 0) s)
+    (cond (is_in_rom (pc + 2)) (act_or device (decode_of (fetched device pc) (fetched device (pc + 2))) s) (stopped stop.BadState s)))
     (stopped stop.BadState s)
 
 -- Turns
@@ -303,8 +293,8 @@ abbrev pub turned : Turn → List ℕ → State → State
 turned t ram s = record { cpu = set_by t s.cpu; memory = record s.memory { ns_ram = ram } }
 
 -- One turn in Non-secure state: registers, items, and the branch to the target. A turn itself hands nothing over.
-unfoldable pub turn_of : List ℕ → Turn → State → Done
-turn_of rom t s =
+unfoldable pub turn_of : Device → Turn → State → Done
+turn_of device t s =
     let after = acted t.items s.memory.ns_ram in
     let s' = turned t after.ram s in
-    unless after.stop s' (arrived rom (goes_in rom t.target) (aligned 2 t.target) what.Went s')
+    unless after.stop s' (arrived device (goes_in device t.target) (aligned 2 t.target) what.Went s')

@@ -87,7 +87,7 @@ fn load(memory: &Memory, cpu: &mut Cpu, t: u32, at: u32, bytes: u8, size: u32) -
     requires reg { t < 15 }
     requires bytes { IsTrue (is_size bytes) }
     requires room { cpu.old.pc + size < 2 ^ 32 }
-    ensures { Ends (apply memory.now.rom (Effect.Load t at bytes) size (state cpu.old memory.now.memory)) (state cpu.old memory.now.memory) (state cpu.new memory.now.memory) result }
+    ensures { Ends (apply memory.now.device (Effect.Load t at bytes) size (state cpu.old memory.now.memory)) (state cpu.old memory.now.memory) (state cpu.new memory.now.memory) result }
 {
     let why = load_stop(at, bytes);
     if why.is_none() {
@@ -104,8 +104,8 @@ fn load(memory: &Memory, cpu: &mut Cpu, t: u32, at: u32, bytes: u8, size: u32) -
 fn store(memory: &mut Memory, cpu: &mut Cpu, at: u32, bytes: u8, v: u32, size: u32) -> Option<Stop>
     requires bytes { IsTrue (is_size bytes) }
     requires room { cpu.old.pc + size < 2 ^ 32 }
-    ensures rom { memory.new.rom ≡ memory.old.rom }
-    ensures step { EndsBy (shown (Effect.Store at bytes v)) (apply memory.old.rom (Effect.Store at bytes v) size (state cpu.old memory.old.memory)) (state cpu.old memory.old.memory) (state cpu.new memory.new.memory) result }
+    ensures device { memory.new.device ≡ memory.old.device }
+    ensures step { EndsBy (shown (Effect.Store at bytes v)) (apply memory.old.device (Effect.Store at bytes v) size (state cpu.old memory.old.memory)) (state cpu.old memory.old.memory) (state cpu.new memory.new.memory) result }
 {
     let why = store_stop(at, bytes);
     if why.is_none() {
@@ -140,7 +140,7 @@ fn load_signed(
     requires reg { t < 15 }
     requires bytes { IsTrue (is_short bytes) }
     requires room { cpu.old.pc + size < 2 ^ 32 }
-    ensures { Ends (apply memory.now.rom (Effect.LoadSigned t at bytes) size (state cpu.old memory.now.memory)) (state cpu.old memory.now.memory) (state cpu.new memory.now.memory) result }
+    ensures { Ends (apply memory.now.device (Effect.LoadSigned t at bytes) size (state cpu.old memory.now.memory)) (state cpu.old memory.now.memory) (state cpu.new memory.now.memory) result }
 {
     let why = load_stop(at, bytes);
     if why.is_none() {
@@ -175,8 +175,8 @@ fn push_stop(list: u32, cpu: &Cpu) -> Option<Stop>
 #[tactic(auto, unfolding(crate::specs::Step::apply, crate::specs::Step::push_stop, crate::specs::Step::pushed))]
 fn push(memory: &mut Memory, cpu: &mut Cpu, list: u32, size: u32) -> Option<Stop>
     requires room { cpu.old.pc + size < 2 ^ 32 }
-    ensures rom { memory.new.rom ≡ memory.old.rom }
-    ensures step { Ends (apply memory.old.rom (Effect.Push list) size (state cpu.old memory.old.memory)) (state cpu.old memory.old.memory) (state cpu.new memory.new.memory) result }
+    ensures device { memory.new.device ≡ memory.old.device }
+    ensures step { Ends (apply memory.old.device (Effect.Push list) size (state cpu.old memory.old.memory)) (state cpu.old memory.old.memory) (state cpu.new memory.new.memory) result }
 {
     let why = push_stop(list, cpu);
     if why.is_none() {
@@ -212,7 +212,7 @@ fn pop_stop(list: u32, cpu: &Cpu) -> Option<Stop>
 #[tactic(auto, unfolding(crate::specs::Step::apply, crate::specs::Step::pop_stop, crate::specs::Step::popped))]
 fn pop(memory: &Memory, cpu: &mut Cpu, list: u32, size: u32) -> Option<Stop>
     requires room { cpu.old.pc + size < 2 ^ 32 }
-    ensures { Ends (apply memory.now.rom (Effect.Pop list) size (state cpu.old memory.now.memory)) (state cpu.old memory.now.memory) (state cpu.new memory.now.memory) result }
+    ensures { Ends (apply memory.now.device (Effect.Pop list) size (state cpu.old memory.now.memory)) (state cpu.old memory.now.memory) (state cpu.new memory.now.memory) result }
 {
     let why = pop_stop(list, cpu);
     if why.is_none() {
@@ -232,8 +232,8 @@ fn settle(memory: &mut Memory, cpu: &mut Cpu, effect: Effect, size: u32) -> Opti
     requires fits { IsTrue (can_apply effect) }
     requires gate { IsFalse (passes_gate effect) }
     requires room { cpu.old.pc + size < 2 ^ 32 }
-    ensures rom { memory.new.rom ≡ memory.old.rom }
-    ensures step { EndsBy (shown effect) (apply memory.old.rom effect size (state cpu.old memory.old.memory)) (state cpu.old memory.old.memory) (state cpu.new memory.new.memory) result }
+    ensures device { memory.new.device ≡ memory.old.device }
+    ensures step { EndsBy (shown effect) (apply memory.old.device effect size (state cpu.old memory.old.memory)) (state cpu.old memory.old.memory) (state cpu.new memory.new.memory) result }
 {
     match effect {
         Effect::Pass => cpu.pc += size,
@@ -304,8 +304,8 @@ fn shown(effect: &Effect) -> Stepped
 pub fn apply(memory: &mut Memory, cpu: &mut Cpu, effect: Effect, size: u32) -> Stepped
     requires fits { IsTrue (can_apply effect) }
     requires room { cpu.old.pc + size < 2 ^ 32 }
-    ensures rom { memory.new.rom ≡ memory.old.rom }
-    ensures step { apply memory.old.rom effect size (state cpu.old memory.old.memory) ≡ done cpu.new memory.new.memory result }
+    ensures device { memory.new.device ≡ memory.old.device }
+    ensures step { apply memory.old.device effect size (state cpu.old memory.old.memory) ≡ done cpu.new memory.new.memory result }
 {
     match effect {
         Effect::Bxns { v } => return bxns(memory, cpu, v),
@@ -323,8 +323,8 @@ pub fn apply(memory: &mut Memory, cpu: &mut Cpu, effect: Effect, size: u32) -> S
 pub fn go_on(memory: &mut Memory, cpu: &mut Cpu, effect: Effect, size: u32) -> bool
     requires fits { IsTrue (can_apply effect) }
     requires room { cpu.old.pc + size < 2 ^ 32 }
-    ensures rom { memory.new.rom ≡ memory.old.rom }
-    ensures on { OnTrue result (apply memory.old.rom effect size (state cpu.old memory.old.memory) ≡ went (state cpu.new memory.new.memory)) }
+    ensures device { memory.new.device ≡ memory.old.device }
+    ensures on { OnTrue result (apply memory.old.device effect size (state cpu.old memory.old.memory) ≡ went (state cpu.new memory.new.memory)) }
     ensures kept { OnFalse result (state cpu.new memory.new.memory ≡ state cpu.old memory.old.memory) }
 {
     if passes_gate(&effect) || is_shown(&effect) {

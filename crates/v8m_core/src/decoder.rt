@@ -2,6 +2,7 @@
 
 ghost use Rattle.std.specs.Prelude.{◌≡◌, ℕ, true, IfOk, IfErr, IsSome, IsSomeAnd, List, None, Some, slice_get};
 ghost use Rattle.cm_base.specs.declared.stop.Stop.TheVariants as stop;
+ghost use Rattle.ns_types.specs.State.{Device};
 ghost use Rattle.ns_types.specs.Platform.{is_in_rom};
 ghost use Rattle.v8m_isa.specs.Table.{decode_of, in_range_of};
 ghost use Rattle.v8m_core.specs.Known.{AreRead, IsAt, NoneAt};
@@ -45,8 +46,8 @@ fn decoded(at: u32, first: u16, second: u16) -> Result<Known, Stop>
 #[inline(never)]
 fn read(memory: &Memory, at: u32) -> Result<Known, Stop>
     requires { is_in_rom at ≡ true }
-    ensures ok { IfOk result (λ k. IsAt memory.now.rom at k) }
-    ensures err { IfErr result (λ why. NoneAt memory.now.rom at why) }
+    ensures ok { IfOk result (λ k. IsAt memory.now.device at k) }
+    ensures err { IfErr result (λ why. NoneAt memory.now.device at why) }
 {
     let first = memory.half(at);
     if is_narrow(first) {
@@ -78,7 +79,7 @@ impl Model for Decoder {
 impl Decoder {
     /// A decoder that takes no more memory later.
     pub fn new(alloc: Global) -> Result<Decoder, NoMemory>
-        ensures { IfOk result (λ d. (rom : List ℕ) → AreRead rom d) }
+        ensures { IfOk result (λ d. (device : Device) → AreRead device d) }
     {
         let known = vec![in alloc; UNUSED; PLACES]?;
         Ok(Decoder { known })
@@ -87,10 +88,10 @@ impl Decoder {
     /// The place of the instruction at an address, or why a step there stops.
     #[inline(always)]
     pub fn find(&mut self, memory: &Memory, pc: u32) -> Result<usize, Stop>
-        requires { AreRead memory.now.rom self.old }
-        ensures kept { AreRead memory.now.rom self.new }
-        ensures ok { IfOk result (λ place. (is_in_rom pc ≡ true) × IsSomeAnd (slice_get self.new place) (λ k. IsAt memory.now.rom pc k)) }
-        ensures err { IfErr result (λ why. NoneAt memory.now.rom pc why) }
+        requires { AreRead memory.now.device self.old }
+        ensures kept { AreRead memory.now.device self.new }
+        ensures ok { IfOk result (λ place. (is_in_rom pc ≡ true) × IsSomeAnd (slice_get self.new place) (λ k. IsAt memory.now.device pc k)) }
+        ensures err { IfErr result (λ why. NoneAt memory.now.device pc why) }
     {
         if !is_in_rom(pc) {
             return Err(Stop::BadState);

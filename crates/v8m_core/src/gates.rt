@@ -2,7 +2,8 @@
 
 ghost use Rattle.std.specs.Prelude.{◌≡◌, ◌+◌, ◌^◌, ◌<◌, IsTrue, None};
 ghost use Rattle.ns_types.specs.Platform.{aligned};
-ghost use Rattle.v8m_core.specs.Step.{arrived, blxns, bx, bxns, call_stop, called, called_at, entered_cpu, limit_stop, link, goes_in, is_gateway, only_stopped, return_stop, return_to, seen};
+ghost use Rattle.ns_types.specs.Gateway.{is_gateway};
+ghost use Rattle.v8m_core.specs.Step.{arrived, blxns, bx, bxns, call_stop, called, called_at, entered_cpu, limit_stop, link, goes_in, only_stopped, return_stop, return_to, seen};
 ghost use Rattle.v8m_core.specs.Parts.{Ends, done, entry_of, is_quiet, state};
 
 use crate::Stepped;
@@ -36,7 +37,7 @@ pub fn stop(cpu: &mut Cpu, stop: Stop) -> Stepped
 /// Whether a Secure gateway stands at an address: SG within the Non-secure callable region.
 #[tactic(auto, unfolding(crate::specs::Step::is_gateway))]
 fn is_gateway(memory: &Memory, at: u32) -> bool
-    ensures { result ≡ is_gateway memory.now.rom at }
+    ensures { result ≡ is_gateway memory.now.device at }
 {
     0x103F_F000 <= at && at <= 0x103F_FFFC && memory.half(at) == SG && memory.half(at + 2) == SG
 }
@@ -44,7 +45,7 @@ fn is_gateway(memory: &Memory, at: u32) -> bool
 /// Where a branch to Non-secure state, or in it, goes. Bit 0 of the target is ignored.
 #[tactic(auto, unfolding(crate::specs::Step::goes_in, ns_types::specs::Boundary::goes_of, crate::specs::Step::is_gateway))]
 fn goes_in(memory: &Memory, target: u32) -> Goes
-    ensures value { result ≡ goes_in memory.now.rom target }
+    ensures value { result ≡ goes_in memory.now.device target }
     ensures entry { entry_of result + 4 < 2 ^ 32 }
 {
     let at = align(2, target);
@@ -81,7 +82,7 @@ fn seen(cpu: &Cpu, pc: u32) -> View
 /// Why a function return stops, if it does.
 #[tactic(auto, unfolding(crate::specs::Step::return_stop))]
 fn return_stop(memory: &Memory, cpu: &Cpu) -> Option<Stop>
-    ensures { result ≡ return_stop memory.now.rom (state cpu.now memory.now.memory) }
+    ensures { result ≡ return_stop memory.now.device (state cpu.now memory.now.memory) }
 {
     let sp = cpu.regs.sp;
     if sp % 8 != 0 {
@@ -103,7 +104,7 @@ fn return_stop(memory: &Memory, cpu: &Cpu) -> Option<Stop>
 #[inline(never)]
 #[tactic(auto, unfolding(crate::specs::Step::return_to, crate::specs::Step::return_stop, ns_types::specs::Platform::is_readable))]
 fn return_to(memory: &Memory, cpu: &mut Cpu) -> Option<Stop>
-    ensures { Ends (return_to memory.now.rom (state cpu.old memory.now.memory)) (state cpu.old memory.now.memory) (state cpu.new memory.now.memory) result }
+    ensures { Ends (return_to memory.now.device (state cpu.old memory.now.memory)) (state cpu.old memory.now.memory) (state cpu.new memory.now.memory) result }
 {
     let why = return_stop(memory, cpu);
     if why.is_none() {
@@ -117,7 +118,7 @@ fn return_to(memory: &Memory, cpu: &mut Cpu) -> Option<Stop>
 
 /// A function return that stops the machine where it stops.
 fn returned(memory: &Memory, cpu: &mut Cpu) -> Stepped
-    ensures step { return_to memory.now.rom (state cpu.old memory.now.memory) ≡ done cpu.new memory.now.memory result }
+    ensures step { return_to memory.now.device (state cpu.old memory.now.memory) ≡ done cpu.new memory.now.memory result }
     ensures quiet { IsTrue (is_quiet result) }
 {
     match return_to(memory, cpu) {
@@ -139,7 +140,7 @@ fn enter(cpu: &mut Cpu, e: u32)
 /// A branch in Non-secure state, or from Secure to Non-secure state: `at` is the program counter of a hand-over,
 /// and `show` what such a step is.
 pub fn arrive(memory: &Memory, cpu: &mut Cpu, target: u32, at: u32, show: Stepped) -> Stepped
-    ensures step { arrived memory.now.rom (goes_in memory.now.rom target) at show (state cpu.old memory.now.memory)
+    ensures step { arrived memory.now.device (goes_in memory.now.device target) at show (state cpu.old memory.now.memory)
         ≡ done cpu.new memory.now.memory result }
     ensures quiet { IsTrue (is_quiet show) → IsTrue (is_quiet result) }
 {
@@ -162,7 +163,7 @@ pub fn arrive(memory: &Memory, cpu: &mut Cpu, target: u32, at: u32, show: Steppe
 /// BXNS: a function return; with bit 0 set a branch in Secure state; else Non-secure state.
 #[tactic(auto, unfolding(crate::specs::Step::bxns))]
 pub fn bxns(memory: &Memory, cpu: &mut Cpu, v: u32) -> Stepped
-    ensures { bxns memory.now.rom v (state cpu.old memory.now.memory) ≡ done cpu.new memory.now.memory result }
+    ensures { bxns memory.now.device v (state cpu.old memory.now.memory) ≡ done cpu.new memory.now.memory result }
 {
     if align(2, v) == FUNCTION_RETURN {
         return returned(memory, cpu);
@@ -181,7 +182,7 @@ pub fn bxns(memory: &Memory, cpu: &mut Cpu, v: u32) -> Stepped
 /// BX: a function return, or a branch in Secure state to an address with bit 0 set.
 #[tactic(auto, unfolding(crate::specs::Step::bx))]
 pub fn bx(memory: &Memory, cpu: &mut Cpu, v: u32) -> Option<Stop>
-    ensures { Ends (bx memory.now.rom v (state cpu.old memory.now.memory)) (state cpu.old memory.now.memory) (state cpu.new memory.now.memory) result }
+    ensures { Ends (bx memory.now.device v (state cpu.old memory.now.memory)) (state cpu.old memory.now.memory) (state cpu.new memory.now.memory) result }
 {
     if align(2, v) == FUNCTION_RETURN {
         return return_to(memory, cpu);
@@ -235,7 +236,7 @@ fn call_stop(cpu: &Cpu) -> Option<Stop>
 #[tactic(auto, unfolding(crate::specs::Step::call_stop))]
 fn call(memory: &mut Memory, cpu: &mut Cpu, back: u32)
     requires { call_stop cpu.old ≡ None }
-    ensures rom { memory.new.rom ≡ memory.old.rom }
+    ensures device { memory.new.device ≡ memory.old.device }
     ensures called { called back (state cpu.old memory.old.memory) ≡ state cpu.new memory.new.memory }
 {
     let sp = cpu.regs.sp.wrapping_sub(8);
@@ -249,8 +250,8 @@ fn call(memory: &mut Memory, cpu: &mut Cpu, back: u32)
 #[tactic(auto, unfolding(crate::specs::Step::call_stop))]
 fn call_of_return(memory: &mut Memory, cpu: &mut Cpu, back: u32) -> Stepped
     requires { call_stop cpu.old ≡ None }
-    ensures rom { memory.new.rom ≡ memory.old.rom }
-    ensures step { only_stopped (state cpu.old memory.old.memory) (return_to memory.old.rom (called back (state cpu.old memory.old.memory))) ≡ done cpu.new memory.new.memory result }
+    ensures device { memory.new.device ≡ memory.old.device }
+    ensures step { only_stopped (state cpu.old memory.old.memory) (return_to memory.old.device (called back (state cpu.old memory.old.memory))) ≡ done cpu.new memory.new.memory result }
 {
     let to = align(2, back);
     let sp = cpu.regs.get(13);
@@ -268,8 +269,8 @@ fn call_of_return(memory: &mut Memory, cpu: &mut Cpu, back: u32) -> Stepped
 /// A call of Non-secure code at an address with bit 0 clear.
 fn call_nonsecure(memory: &mut Memory, cpu: &mut Cpu, v: u32, back: u32) -> Stepped
     requires { call_stop cpu.old ≡ None }
-    ensures rom { memory.new.rom ≡ memory.old.rom }
-    ensures step { only_stopped (state cpu.old memory.old.memory) (called_at memory.old.rom v (called back (state cpu.old memory.old.memory))) ≡ done cpu.new memory.new.memory result }
+    ensures device { memory.new.device ≡ memory.old.device }
+    ensures step { only_stopped (state cpu.old memory.old.memory) (called_at memory.old.device v (called back (state cpu.old memory.old.memory))) ≡ done cpu.new memory.new.memory result }
 {
     match goes_in(memory, v) {
         Goes::Return => call_of_return(memory, cpu, back),
@@ -293,8 +294,8 @@ fn call_nonsecure(memory: &mut Memory, cpu: &mut Cpu, v: u32, back: u32) -> Step
 #[tactic(auto, unfolding(crate::specs::Step::blxns))]
 pub fn blxns(memory: &mut Memory, cpu: &mut Cpu, v: u32, size: u32) -> Stepped
     requires { cpu.old.pc + size < 2 ^ 32 }
-    ensures rom { memory.new.rom ≡ memory.old.rom }
-    ensures step { blxns memory.old.rom v size (state cpu.old memory.old.memory) ≡ done cpu.new memory.new.memory result }
+    ensures device { memory.new.device ≡ memory.old.device }
+    ensures step { blxns memory.old.device v size (state cpu.old memory.old.memory) ≡ done cpu.new memory.new.memory result }
 {
     let back = link(size, cpu);
     if v % 2 == 0 {

@@ -90,7 +90,7 @@ pub fn store_all(memory: &mut Memory, regs: &Regs, list: u32, registers: &[u32],
 pub fn load_all(memory: &Memory, regs: &mut Regs, list: u32, registers: &[u32], at: u32)
     requires registers { IsTrue (list_all is_register registers.now) }
     requires readable { IsTrue (all_readable list registers.now at) }
-    ensures { regs.new ≡ all_loaded list registers.now memory.now.rom memory.now.memory at regs.old }
+    ensures { regs.new ≡ all_loaded list registers.now memory.now.device memory.now.memory at regs.old }
 {
     let mut a = at;
     for n in registers {

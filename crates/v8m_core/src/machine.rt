@@ -4,7 +4,8 @@ ghost use Rattle.std.specs.Prelude.{◌≡◌, ◌≤◌, IfOk, IsTrue, length};
 ghost use Rattle.std.specs.Bool.{OnFalse, OnTrue};
 ghost use Rattle.ns_types.specs.declared.state.Side.TheVariants as sides;
 ghost use Rattle.ns_types.specs.Boundary.{acted};
-ghost use Rattle.v8m_mem.specs.Rows.{IsStart};
+ghost use Rattle.ns_types.specs.State.{device_of};
+ghost use Rattle.ns_types.specs.Memory.{IsStart, rom_size};
 ghost use Rattle.v8m_core.specs.Code.{Comes};
 ghost use Rattle.v8m_core.specs.Known.{AreRead};
 ghost use Rattle.v8m_core.specs.Step.{step_of, turn_of, went};
@@ -43,15 +44,15 @@ impl Model for Machine {
 
     ghost Value = { Whole };
 
-    ghost view = { λ m. record { rom = m.memory.rom; state = record { cpu = m.cpu; memory = m.memory.memory } } };
+    ghost view = { λ m. record { device = m.memory.device; state = record { cpu = m.cpu; memory = m.memory.memory } } };
 
-    ghost invariant = { λ m. AreRead m.memory.rom m.decoder };
+    ghost invariant = { λ m. AreRead m.memory.device m.decoder };
 }
 
 /// The processor at reset (DDI0553, Reset).
 #[tactic(auto, unfolding(ns_types::specs::Platform::is_readable, ns_types::specs::Memory::load))]
 fn reset_cpu(memory: &Memory) -> Cpu
-    ensures { result ≡ reset_cpu memory.now.rom }
+    ensures { result ≡ reset_cpu memory.now.device }
 {
     let sp = align(4, memory.load(0x1000_0000, 4));
     let pc = align(2, memory.load(0x1000_0004, 4));
@@ -86,10 +87,10 @@ fn reset_cpu(memory: &Memory) -> Cpu
 
 /// One step in Secure state.
 fn step(memory: &mut Memory, cpu: &mut Cpu, decoder: &mut Decoder) -> Stepped
-    requires { AreRead memory.old.rom decoder.old }
-    ensures rom { memory.new.rom ≡ memory.old.rom }
-    ensures kept { AreRead memory.new.rom decoder.new }
-    ensures step { step_of memory.old.rom (state cpu.old memory.old.memory) ≡ done cpu.new memory.new.memory result }
+    requires { AreRead memory.old.device decoder.old }
+    ensures device { memory.new.device ≡ memory.old.device }
+    ensures kept { AreRead memory.new.device decoder.new }
+    ensures step { step_of memory.old.device (state cpu.old memory.old.memory) ≡ done cpu.new memory.new.memory result }
 {
     match decoder.find(memory, cpu.pc) {
         Ok(place) => {
@@ -104,10 +105,10 @@ fn step(memory: &mut Memory, cpu: &mut Cpu, decoder: &mut Decoder) -> Stepped
 /// One step in Secure state, if it only goes on; else nothing changes.
 #[inline(always)]
 fn go_on(memory: &mut Memory, cpu: &mut Cpu, decoder: &mut Decoder) -> bool
-    requires { AreRead memory.old.rom decoder.old }
-    ensures rom { memory.new.rom ≡ memory.old.rom }
-    ensures kept { AreRead memory.new.rom decoder.new }
-    ensures on { OnTrue result (step_of memory.old.rom (state cpu.old memory.old.memory) ≡ went (state cpu.new memory.new.memory)) }
+    requires { AreRead memory.old.device decoder.old }
+    ensures device { memory.new.device ≡ memory.old.device }
+    ensures kept { AreRead memory.new.device decoder.new }
+    ensures on { OnTrue result (step_of memory.old.device (state cpu.old memory.old.memory) ≡ went (state cpu.new memory.new.memory)) }
     ensures still { OnFalse result (state cpu.new memory.new.memory ≡ state cpu.old memory.old.memory) }
 {
     match decoder.find(memory, cpu.pc) {
@@ -123,9 +124,9 @@ fn go_on(memory: &mut Memory, cpu: &mut Cpu, decoder: &mut Decoder) -> bool
 impl Machine {
     /// The machine at reset, with all the memory that it needs.
     pub fn new(alloc: Global, image: &Image, start: &Start) -> Result<Machine, NoMemory>
-        requires rom { length image.now.rom ≡ 4194304 }
+        requires rom { length image.now.rom ≡ rom_size }
         requires start { IsStart start.now }
-        ensures { IfOk result (λ m. m ≡ record { rom = image.now.rom; state = reset_of image.now.rom start.now }) }
+        ensures { IfOk result (λ m. m ≡ record { device = device_of image.now.rom; state = reset_of (device_of image.now.rom) start.now }) }
     {
         let memory = Memory::new(alloc, PLATFORM, image.rom.as_slice(), start)?;
         let cpu = reset_cpu(&memory);
@@ -154,8 +155,8 @@ impl Machine {
     /// One instruction, with the gate that it opens.
     pub fn step(&mut self) -> Stepped
         requires { self.old.state.cpu.side ≡ sides.Secure }
-        ensures rom { self.new.rom ≡ self.old.rom }
-        ensures step { step_of self.old.rom self.old.state ≡ record { state = self.new.state; what = result } }
+        ensures device { self.new.device ≡ self.old.device }
+        ensures step { step_of self.old.device self.old.state ≡ record { state = self.new.state; what = result } }
     {
         step(&mut self.memory, &mut self.cpu, &mut self.decoder)
     }
@@ -163,9 +164,9 @@ impl Machine {
     /// Takes steps that only go on, at most so many, and answers how many: the next one may end the run or make an event.
     pub fn go_on(&mut self, most: u64) -> u64
         requires { self.old.state.cpu.side ≡ sides.Secure }
-        ensures rom { self.new.rom ≡ self.old.rom }
+        ensures device { self.new.device ≡ self.old.device }
         ensures most { result ≤ most }
-        ensures steps { Comes self.old.rom result self.old.state self.new.state }
+        ensures steps { Comes self.old.device result self.old.state self.new.state }
     {
         for taken in 0..most {
             if !go_on(&mut self.memory, &mut self.cpu, &mut self.decoder) {
@@ -178,10 +179,10 @@ impl Machine {
     /// One turn of Non-secure code: Went or Stopped. Its Write items change Non-secure RAM, also where it stops.
     pub fn turn(&mut self, turn: &Turn) -> Stepped
         requires { self.old.state.cpu.side ≡ sides.NonSecure }
-        ensures rom { self.new.rom ≡ self.old.rom }
+        ensures device { self.new.device ≡ self.old.device }
         ensures ram { self.new.state.memory.ns_ram ≡ (acted turn.now.items self.old.state.memory.ns_ram).ram }
         ensures quiet { IsTrue (is_quiet result) }
-        ensures turn { turn_of self.old.rom turn.now self.old.state ≡ record { state = self.new.state; what = result } }
+        ensures turn { turn_of self.old.device turn.now self.old.state ≡ record { state = self.new.state; what = result } }
     {
         play(&mut self.memory, &mut self.cpu, turn)
     }

@@ -88,10 +88,10 @@ fn set_by(turn: &Turn, cpu: &mut Cpu)
 /// One turn: registers, items, and the branch to the target.
 #[tactic(auto, unfolding(crate::specs::Step::turn_of))]
 pub fn play(memory: &mut Memory, cpu: &mut Cpu, turn: &Turn) -> Stepped
-    ensures rom { memory.new.rom ≡ memory.old.rom }
+    ensures device { memory.new.device ≡ memory.old.device }
     ensures ram { memory.new.memory.ns_ram ≡ (acted turn.now.items memory.old.memory.ns_ram).ram }
     ensures quiet { IsTrue (is_quiet result) }
-    ensures turn { turn_of memory.old.rom turn.now (state cpu.old memory.old.memory) ≡ done cpu.new memory.new.memory result }
+    ensures turn { turn_of memory.old.device turn.now (state cpu.old memory.old.memory) ≡ done cpu.new memory.new.memory result }
 {
     let stopped = act_items(memory, turn.items.as_slice());
     set_by(turn, cpu);

@@ -2,8 +2,9 @@ ghost use Rattle.std.specs.Prelude.{◌≡◌, ◌-◌, ◌≤◌, IfOk, IsTrue,
 ghost use Rattle.std.specs.Bool.{OnFalse};
 ghost use Rattle.cm_base.specs.declared.regions.TheConstants.{PLATFORM};
 ghost use Rattle.ns_types.specs.Platform.{in_row, is_in_rom, is_readable, is_writable, region_of, row};
-ghost use Rattle.ns_types.specs.Memory.{half_at, load, read_of, store, write_of};
-ghost use Rattle.v8m_mem.specs.Rows.{AreWhole, IsStart, is_size, memory_of};
+ghost use Rattle.ns_types.specs.State.{device_of};
+ghost use Rattle.ns_types.specs.Memory.{IsStart, half_at, load, memory_of, read_of, rom_size, store, write_of};
+ghost use Rattle.v8m_mem.specs.Rows.{AreWhole, is_size};
 ghost use Rattle.v8m_mem.specs.Target.{target_of};
 
 use crate::access::{can_read, can_write, region_at, target};
@@ -25,13 +26,14 @@ pub struct Memory {
 }
 
 impl Model for Memory {
+    ghost use Rattle.ns_types.specs.State.{device_of};
     ghost use Rattle.v8m_mem.specs.Rows.{AreWhole, Rows};
 
     ghost Value = { Rows };
 
-    ghost view = { λ m. record { rom = m.rom.items; memory = record { ns_rom = m.ns_rom.items; ns_ram = m.ns_ram.items; secure_ram = m.secure_ram.items } } };
+    ghost view = { λ m. record { device = device_of m.rom.items; memory = record { ns_rom = m.ns_rom.items; ns_ram = m.ns_ram.items; secure_ram = m.secure_ram.items } } };
 
-    ghost invariant = { λ m. AreWhole (record { rom = m.rom.items; memory = record { ns_rom = m.ns_rom.items; ns_ram = m.ns_ram.items; secure_ram = m.secure_ram.items } }) };
+    ghost invariant = { λ m. AreWhole (record { device = device_of m.rom.items; memory = record { ns_rom = m.ns_rom.items; ns_ram = m.ns_ram.items; secure_ram = m.secure_ram.items } }) };
 }
 
 impl Memory {
@@ -43,9 +45,9 @@ impl Memory {
         start: &Start,
     ) -> Result<Memory, NoMemory>
         requires platform { regions ≡ PLATFORM }
-        requires rom { length rom.now ≡ 4194304 }
+        requires rom { length rom.now ≡ rom_size }
         requires start { IsStart start.now }
-        ensures { IfOk result (λ m. m ≡ record { rom = rom.now; memory = memory_of start.now }) }
+        ensures { IfOk result (λ m. m ≡ record { device = device_of rom.now; memory = memory_of start.now }) }
     {
         let _ = regions;
         Ok(Memory {
@@ -59,7 +61,7 @@ impl Memory {
     /// The number of 1, 2 or 4 bytes at an address, where one region holds them all.
     pub fn read(&self, at: u32, size: u8) -> Option<u32>
         requires { IsTrue (is_size size) }
-        ensures { result ≡ read_of self.now.rom self.now.memory at size }
+        ensures { result ≡ read_of self.now.device self.now.memory at size }
     {
         if can_read(at, size) {
             Some(self.load(at, size))
@@ -72,7 +74,7 @@ impl Memory {
     /// written holds them all.
     pub fn write(&mut self, at: u32, size: u8, value: u32) -> bool
         requires { IsTrue (is_size size) }
-        ensures rom { self.new.rom ≡ self.old.rom }
+        ensures device { self.new.device ≡ self.old.device }
         ensures write { write_of self.old.memory at size value ≡ (if result then Some self.new.memory else None) }
         ensures refused { OnFalse result (self.new ≡ self.old) }
     {
@@ -117,7 +119,7 @@ impl Memory {
     pub fn load(&self, at: u32, size: u8) -> u32
         requires size { IsTrue (is_size size) }
         requires readable { IsTrue (is_readable at size) }
-        ensures { result ≡ load size at self.now.rom self.now.memory }
+        ensures { result ≡ load size at self.now.device self.now.memory }
     {
         if at >= 0x3000_0000 {
             get_number(&self.secure_ram, (at - 0x3000_0000) as usize, size)
@@ -153,7 +155,7 @@ impl Memory {
     #[tactic(auto, unfolding(ns_types::specs::Memory::half_at))]
     pub fn half(&self, at: u32) -> u16
         requires { IsTrue (is_in_rom at) }
-        ensures { result ≡ half_at self.now.rom (at - (row 2).from) }
+        ensures { result ≡ half_at self.now.device (at - (row 2).from) }
     {
         let o = (at - 0x1000_0000) as usize;
         if o + 1 < self.rom.len() {

@@ -1,5 +1,5 @@
 use Rattle.ns_types.proofs.BoundLaws.{extends}
-use Rattle.v8m_mem.specs.Rows.{memory_of}
+use Rattle.ns_types.specs.Memory.{memory_of}
 use Rattle.constant_entry.specs.Meaning.{enters_first, gives}
 use Rattle.constant_entry.proofs.Tracked.{goes_further}
 use Rattle.constant_entry.proofs.laws.larger_bound.Goals as goal
