@@ -4,12 +4,15 @@ use Rattle.std.specs.Prelude.{eqb, slice_index}
 use Rattle.std.proofs.lemmas.Grind.{common_steps}
 use Rattle.std.proofs.lemmas.Bool.Decides.{nat_tests}
 use Rattle.v8m_isa.specs.declared.instr.Instr.{Instr}
+use Rattle.cm_base.specs.LittleEndian.{le16}
 use Rattle.v8m_isa.specs.Table.{in_range_of, size_of, code_of}
+use Rattle.v8m_isa.specs.Bytes.{instr_bytes, code_bytes, AllInRange}
 use Rattle.ns_types.specs.Platform.{is_in_rom}
 use Rattle.ns_types.specs.Memory.{half_at, word_at}
 use Rattle.v8m_core.specs.Step.{fetched}
-use Rattle.v8m_core.specs.Code.{HasCode, two, instr_bytes, code_bytes, AllInRange}
-use Rattle.v8m_isa.proofs.Laws.{size_of_two_or_four, first-code_of_lt, second-code_of_lt}
+use Rattle.v8m_core.specs.Code.{HasCode}
+use Rattle.v8m_isa.proofs.DecodingLaws.{size_of_two_or_four, first-code_of_lt, second-code_of_lt}
+use Rattle.v8m_isa.proofs.ByteLaws.{length_bytes}
 
 -- a halfword where its bytes stand
 pub half_at_seam : (pre post : List ℕ) (h o : ℕ) → h < 65536 → o ≡ length pre → half_at (pre ++ (h % 256 ∷ h / 256 % 256 ∷ post)) o ≡ h
@@ -30,27 +33,20 @@ word_at_seam pre post v o lt e =
     let d : slice_index (pre ++ (v % 256 ∷ v / 256 % 256 ∷ v / 65536 % 256 ∷ v / 16777216 % 256 ∷ post)) (o + 3) ≡ v / 16777216 % 256 = grind (arith, common_steps) in
     rw (a, b, c, d) (omega arith)
 
-pub length_bytes : (i : Instr) → length (instr_bytes i) ≡ size_of i
-length_bytes i =
-    ⊎_elim
-    (λ e. ap (λ n. length (cond (eqb n 2) (two (code_of i).first) (two (code_of i).first ++ two (code_of i).second))) e ∙ sym e)
-    (λ e. ap (λ n. length (cond (eqb n 2) (two (code_of i).first) (two (code_of i).first ++ two (code_of i).second))) e ∙ sym e)
-    (size_of_two_or_four i)
-
 first_stands : (i : Instr) (rom pre post : List ℕ) → in_range_of i ≡ true → rom ≡ pre ++ (instr_bytes i ++ post) → half_at rom (length pre) ≡ (code_of i).first
 first_stands i rom pre post range e =
     ⊎_elim
-    (λ s. ap (λ r. half_at r (length pre)) (e ∙ ap (λ n. pre ++ (cond (eqb n 2) (two (code_of i).first) (two (code_of i).first ++ two (code_of i).second) ++ post)) s) ∙ half_at_seam pre post (code_of i).first (length pre) (first-code_of_lt i range) refl)
-    (λ s. ap (λ r. half_at r (length pre)) (e ∙ ap (λ n. pre ++ (cond (eqb n 2) (two (code_of i).first) (two (code_of i).first ++ two (code_of i).second) ++ post)) s) ∙ half_at_seam pre (two (code_of i).second ++ post) (code_of i).first (length pre) (first-code_of_lt i range) refl)
+    (λ s. ap (λ r. half_at r (length pre)) (e ∙ ap (λ n. pre ++ (cond (eqb n 2) (le16 (code_of i).first) (le16 (code_of i).first ++ le16 (code_of i).second) ++ post)) s) ∙ half_at_seam pre post (code_of i).first (length pre) (first-code_of_lt i range) refl)
+    (λ s. ap (λ r. half_at r (length pre)) (e ∙ ap (λ n. pre ++ (cond (eqb n 2) (le16 (code_of i).first) (le16 (code_of i).first ++ le16 (code_of i).second) ++ post)) s) ∙ half_at_seam pre (le16 (code_of i).second ++ post) (code_of i).first (length pre) (first-code_of_lt i range) refl)
     (size_of_two_or_four i)
 
 second_stands : (i : Instr) (rom pre post : List ℕ) → in_range_of i ≡ true → rom ≡ pre ++ (instr_bytes i ++ post) → (size_of i ≡ 2) ⊎ (half_at rom (length pre + 2) ≡ (code_of i).second)
 second_stands i rom pre post range e =
     ⊎_elim (λ s. inl s)
     (λ s. inr (
-    let turn : pre ++ (two (code_of i).first ++ two (code_of i).second ++ post) ≡ (pre ++ two (code_of i).first) ++ (two (code_of i).second ++ post) = sym (append_assoc pre (two (code_of i).first) (two (code_of i).second ++ post)) in
-    let n : length pre + 2 ≡ length (pre ++ two (code_of i).first) = omega (arith, length-append pre (two (code_of i).first)) in
-    ap (λ r. half_at r (length pre + 2)) (e ∙ ap (λ n. pre ++ (cond (eqb n 2) (two (code_of i).first) (two (code_of i).first ++ two (code_of i).second) ++ post)) s ∙ turn) ∙ half_at_seam (pre ++ two (code_of i).first) post (code_of i).second (length pre + 2) (second-code_of_lt i range) n))
+    let turn : pre ++ (le16 (code_of i).first ++ le16 (code_of i).second ++ post) ≡ (pre ++ le16 (code_of i).first) ++ (le16 (code_of i).second ++ post) = sym (append_assoc pre (le16 (code_of i).first) (le16 (code_of i).second ++ post)) in
+    let n : length pre + 2 ≡ length (pre ++ le16 (code_of i).first) = omega (arith, length-append pre (le16 (code_of i).first)) in
+    ap (λ r. half_at r (length pre + 2)) (e ∙ ap (λ n. pre ++ (cond (eqb n 2) (le16 (code_of i).first) (le16 (code_of i).first ++ le16 (code_of i).second) ++ post)) s ∙ turn) ∙ half_at_seam (pre ++ le16 (code_of i).first) post (code_of i).second (length pre + 2) (second-code_of_lt i range) n))
     (size_of_two_or_four i)
 
 pub has_code : (is : List Instr) (rom pre post : List ℕ) → rom ≡ pre ++ (code_bytes is ++ post) → length rom ≤ 4194304 → AllInRange is → HasCode rom (268435456 + length pre) is
