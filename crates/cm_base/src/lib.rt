@@ -24,8 +24,8 @@ pub use out_sink::OutSink;
 pub use outside::{Sink, Store, StoreFault};
 pub use place::{Place, Refusal};
 pub use regions::{
-    DATA_POINTER, MAIN_SEAL, NS_RAM, NS_ROM, NSC, PLATFORM, PROCESS_LIMIT, PROCESS_SEAL, Regions, Row, SEAL_WORD,
-    SECURE_CONTROL, SECURE_DATA, SECURE_ROM,
+    DATA_POINTER, MAIN_SEAL, NS_RAM, NS_ROM, NSC, PLATFORM, PROCESS_LIMIT, PROCESS_SEAL, Regions,
+    Row, SEAL_WORD, SECURE_CONTROL, SECURE_DATA, SECURE_ROM,
 };
 pub use shared::Shared;
 pub use stop::Stop;

@@ -14,6 +14,9 @@ use denote.Param.Weighed.{Weighed}
 use denote.Model.Placed.{view_places}
 use Rattle.std.specs.declared.rc.Rc.{Rc}
 use Rattle.std.specs.contracts.rc.Rc as rc
+use Rattle.std.specs.declared.alloc.Global.{Global}
+use Rattle.std.specs.contracts.alloc.Global as heap
+use Rattle.std.specs.contracts.impls.GlobalAllocator.TheImpl.{ghosts}
 use Rattle.cm_base.specs.declared.shared.Shared.TheInside.{Inside}
 use Rattle.cm_base.specs.declared.shared.Shared.TheView.{view, invariant}
 use Rattle.cm_base.specs.contracts.shared.Shared as C
@@ -29,11 +32,11 @@ abbrev fields : Former {0}
 fields = via (pair (const Ptr) this) Inside (λ X a. (a.inner.ptr, a.inner.value))
     (λ X v. record { inner = record { ptr = v.0; value = v.1 } }) (λ X a. refl) (λ X v. refl)
 
-abbrev with_value : {X Y : Type 0} → Rc X → Y → Rc Y
+abbrev with_value : {X Y : Type 0} → Rc X Global → Y → Rc Y Global
 with_value b y = record { ptr = b.ptr; value = y }
 
 abbrev rc_of : RattleType → RattleType
-rc_of R = rc.the_row R
+rc_of R = rc.the_row R heap.the_row ghosts
 
 module _ (R S : RattleType) (h : R.Denot → S.Denot) where
   rc_places : Alike R S h → Alike (rc_of R) (rc_of S) (λ b. with_value b (h b.value))
