@@ -16,6 +16,3 @@ pub mod token;
 mod words;
 
 pub use lexer::{LexFault, MAX_SOURCE, lex};
-
-#[cfg(test)]
-mod tests;

@@ -7,6 +7,3 @@ pub mod parser;
 mod units;
 
 pub use parser::{MAX_NESTING, SyntaxFault, parse};
-
-#[cfg(test)]
-mod tests;

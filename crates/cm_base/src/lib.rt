@@ -29,6 +29,3 @@ pub use regions::{
 };
 pub use shared::Shared;
 pub use stop::Stop;
-
-#[cfg(test)]
-mod tests;

@@ -5,6 +5,3 @@ pub mod laws;
 mod running;
 
 pub use running::{play_turn, run};
-
-#[cfg(test)]
-mod tests;

@@ -15,6 +15,3 @@ mod values;
 pub use effect::Effect;
 pub use machine::{Image, Machine};
 pub use stepped::Stepped;
-
-#[cfg(test)]
-mod tests;

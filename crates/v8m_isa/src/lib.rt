@@ -8,8 +8,6 @@ mod instr;
 pub mod laws;
 mod operand;
 mod table;
-#[cfg(test)]
-mod tests;
 
 pub use codec::{decode, encode, in_range, is_narrow};
 pub use instr::{Code, Instr};

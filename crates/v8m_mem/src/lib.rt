@@ -7,6 +7,3 @@ mod memory;
 
 pub use access::{can_read, can_write, is_in_ns_ram, is_in_rom, is_nonsecure, is_secure, target};
 pub use memory::Memory;
-
-#[cfg(test)]
-mod tests;

@@ -1,7 +1,7 @@
 //! Texts and what they are read as. The answers are worked out from the rules of the language.
 
-use crate::token::{Kind, Token};
-use crate::{LexFault, MAX_SOURCE, lex};
+use c_lex::token::{Kind, Token};
+use c_lex::{LexFault, MAX_SOURCE, lex};
 use std::alloc::{AllocError, Global};
 use std::fmt::Write;
 use std::test::Fail;

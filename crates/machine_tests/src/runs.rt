@@ -2,7 +2,7 @@
 
 ghost use Rattle.std.specs.Prelude.{◌≡◌, IfOk, vec_len};
 
-use crate::run;
+use ns_turns::run;
 use cm_base::{Bytes, List, NoMemory, Stop};
 use ns_types::{End, Event, Item, Start, Turn, View};
 use std::alloc::Global;

@@ -2,7 +2,7 @@
 
 ghost use Rattle.std.specs.Prelude.{◌≡◌, IfOk, length};
 
-use crate::{Memory, can_read, can_write, is_in_ns_ram, is_in_rom, is_nonsecure, is_secure};
+use v8m_mem::{Memory, can_read, can_write, is_in_ns_ram, is_in_rom, is_nonsecure, is_secure};
 use cm_base::{Bytes, NoMemory, PLATFORM};
 use ns_types::Start;
 use std::alloc::Global;

@@ -1,6 +1,6 @@
 //! Halfwords that LLVM's assembler gives, and some that are no instruction.
 
-use crate::{Code, Instr, decode, encode, in_range, is_narrow};
+use v8m_isa::{Code, Instr, decode, encode, in_range, is_narrow};
 
 // Whether an instruction and these halfwords are each other's.
 fn is_code(i: Instr, code: Code) -> bool {

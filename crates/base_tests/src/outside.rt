@@ -1,5 +1,5 @@
 //! Each call once with ample memory, with the answers worked out by hand.
-use crate::{FileStore, MemSink, MemStore, OutSink, Shared, Sink, Store, StoreFault, Text};
+use cm_base::{FileStore, MemSink, MemStore, OutSink, Shared, Sink, Store, StoreFault, Text};
 use std::alloc::Global;
 use std::test::Fail;
 use std::{fs, process};

@@ -2,7 +2,7 @@
 
 ghost use Rattle.std.specs.Prelude.{◌≡◌, IfOk, vec_len};
 
-use crate::{Image, Machine, Stepped};
+use v8m_core::{Image, Machine, Stepped};
 use cm_base::{Bytes, List, NoMemory, Stop};
 use ns_types::{Item, Side, Start, Turn, View};
 use std::alloc::Global;
