@@ -12,9 +12,12 @@ use Rattle.v8m_isa.specs.Table.{in_range_of, size_of, code_of}
 use Rattle.ns_types.specs.Platform.{lies_in}
 use Rattle.ns_types.specs.Memory.{half_at, word_at}
 use Rattle.ns_types.specs.Gateway.{fetched, is_gateway}
-use Rattle.v8m_isa.proofs.Laws.{size-code_of, size_of_two_or_four}
-use Rattle.v8m_core.specs.Code.{two, HasCode, instr_bytes, code_bytes, AllInRange}
-use Rattle.v8m_core.proofs.Bytes.{word_at_seam, length_bytes, has_code}
+use Rattle.v8m_isa.proofs.DecodingLaws.{size-code_of, size_of_two_or_four}
+use Rattle.cm_base.specs.LittleEndian.{le16}
+use Rattle.v8m_isa.specs.Bytes.{instr_bytes, code_bytes, AllInRange}
+use Rattle.v8m_isa.proofs.ByteLaws.{length_bytes}
+use Rattle.v8m_core.specs.Code.{HasCode}
+use Rattle.v8m_core.proofs.Bytes.{word_at_seam, has_code}
 use Rattle.elf32.specs.Fields.{le32}
 use Rattle.constant_entry.specs.Code.{start_code, entry_code, gateway_code, vectors, used_bytes, gateway_bytes, rom_bytes, start_place, entry_place}
 use Rattle.constant_entry.specs.Shows.{first_veneer, GivesConstant}
@@ -182,14 +185,14 @@ pub gateway_all : All (λ i. IsTrue (in_range_of i)) gateway_code
 gateway_all = all_of gateway_code gateway_ranges
 
 -- an instruction's bytes, as they are written
-pub instr_wide : (i : Instr) (s : ℕ) → (code_of i).size ≡ s → s ≡ 4 → instr_bytes i ≡ two (code_of i).first ++ two (code_of i).second
+pub instr_wide : (i : Instr) (s : ℕ) → (code_of i).size ≡ s → s ≡ 4 → instr_bytes i ≡ le16 (code_of i).first ++ le16 (code_of i).second
 instr_wide i s e f =
-    ap (λ n. cond (eqb n 2) (two (code_of i).first) (two (code_of i).first ++ two (code_of i).second)) (sym (size-code_of i) ∙ e ∙ f)
+    ap (λ n. cond (eqb n 2) (le16 (code_of i).first) (le16 (code_of i).first ++ le16 (code_of i).second)) (sym (size-code_of i) ∙ e ∙ f)
 
-pub instr_narrow : (i : Instr) (s : ℕ) → (code_of i).size ≡ s → s ≢ 4 → instr_bytes i ≡ two (code_of i).first
+pub instr_narrow : (i : Instr) (s : ℕ) → (code_of i).size ≡ s → s ≢ 4 → instr_bytes i ≡ le16 (code_of i).first
 instr_narrow i s e f =
     let n : size_of i ≡ 2 = ⊎_elim (λ t. t) (λ t. absurd (f (sym e ∙ size-code_of i ∙ t))) (size_of_two_or_four i) in
-    ap (λ n. cond (eqb n 2) (two (code_of i).first) (two (code_of i).first ++ two (code_of i).second)) n
+    ap (λ n. cond (eqb n 2) (le16 (code_of i).first) (le16 (code_of i).first ++ le16 (code_of i).second)) n
 
 -- the callable region, byte by byte
 abbrev cells : List ℕ → List ℕ

@@ -3,13 +3,13 @@ use Rattle.std.specs.Prelude.{ℕ, ◌+◌, ◌-◌, ◌/◌, ◌%◌, ◌++◌,
 use Rattle.std.specs.List.{flat_map}
 use Rattle.cm_base.specs.declared.regions.TheConstants.{SECURE_ROM, NSC}
 use Rattle.cm_base.specs.LittleEndian.{le32}
+use Rattle.v8m_isa.specs.Bytes.{code_bytes}
 use Rattle.v8m_isa.specs.declared.instr.Instr.{Instr}
 use Rattle.v8m_isa.specs.declared.instr.Instr.TheVariants.{Mov, Bxns, Udf, Sg, Movw, Movt, Bic, Ldr, Str, B, Msr}
 use Rattle.ns_types.specs.Operators.{subtract}
 use Rattle.ns_types.specs.Platform.{row_size}
 use Rattle.ns_types.specs.SecureRam.{data_start, main_limit, main_seal, process_limit, process_seal, data_pointer, seal_word}
 use Rattle.ns_types.specs.State.{Device, device_of}
-use Rattle.v8m_core.specs.Code.{code_bytes}
 
 -- the addresses of the start code, of the entry and of the one UDF 0 in Secure ROM
 abbrev pub start_place : ℕ

@@ -1,6 +1,6 @@
 -- Non-secure RAM at the hand-overs of a run of the machine.
 use Rattle.std.specs.Prelude.{◌≡◌, ℕ, zero, suc, ◌+◌, ◌%◌, Bool, true, false, cond, not, ◌&&◌, eqb, map, List, [], ◌∷◌, ◌++◌, Option, Some, None}
-use Rattle.v8m_isa.specs.Table.{Decoded, decode_of, is_narrow}
+use Rattle.v8m_isa.specs.Decoding.{Decoded, decode_of, is_narrow}
 use Rattle.ns_types.specs.declared.event.Event.{Event}
 use Rattle.ns_types.specs.declared.event.Event.TheVariants as event
 use Rattle.ns_types.specs.declared.state.Cpu.{Cpu}
