@@ -15,6 +15,7 @@ use Rattle.ns_types.specs.declared.turn.Start.{Start}
 use Rattle.ns_types.specs.State.{Device, State}
 use Rattle.ns_types.specs.Platform.{aligned}
 use Rattle.ns_types.specs.Memory.{word_at, IsStart}
+use Rattle.ns_types.specs.SecureRam.{main_seal, seal_word, ram_place}
 use Rattle.ns_types.specs.Ram.{AreSecure}
 use Rattle.ns_types.specs.Boundary.{acted, reset_address}
 use Rattle.ns_types.specs.CRun.{World}
@@ -26,17 +27,18 @@ use Rattle.v8m_core.specs.Reset.{reset_of}
 use Rattle.v8m_core.proofs.Runs.{does, stays, has_front, has_back}
 use Rattle.v8m_core.proofs.GateLaws.{aligned_even}
 use Rattle.ns_turns.specs.Run.{next_of}
-use Rattle.ns_turns.specs.Moments.{is_write, Tells, stacks_outside, AllTell, AlwaysKnowsRam}
+use Rattle.ns_turns.specs.Tells.{is_write, Tells, stacks_outside, AllTell}
+use Rattle.ns_turns.specs.Moments.{AlwaysKnowsRam}
 use Rattle.ns_turns.proofs.Tell.{told_apply}
 use Rattle.ns_turns.proofs.RamLaws.{tell_step, tell_turn}
 use Rattle.ns_turns.proofs.RamLaws as ram_laws
-use Rattle.constant_entry.specs.Code.{stacks_code, hand_code, start_front, entry_front, start_place, entry_place}
-use Rattle.constant_entry.specs.Shows.{first_veneer, GivesConstant}
-use Rattle.constant_entry.specs.Meaning.{enters_first}
+use Rattle.constant_entry.specs.Code.{stacks_code, hand_code, start_front, entry_front, gateway_offset, start_place, entry_place, first_veneer}
+use Rattle.constant_entry.specs.Shows.{GivesConstant}
+use Rattle.constant_entry.proofs.Entering.{enters_first}
 use Rattle.constant_entry.proofs.States.{sealed, handing, answering}
 use Rattle.constant_entry.proofs.Pieces.{seal_does, hand_does, answer_does}
 use Rattle.constant_entry.proofs.Views.{start_lr, branches}
-use Rattle.constant_entry.proofs.Whole.{seal_stands}
+use Rattle.constant_entry.proofs.Seals.{main_high}
 use Rattle.constant_entry.proofs.Refine.{return_quiet, outside_cases, goes_m, goes_in_is, bxns_arrives}
 
 -- How it goes on, by who runs
@@ -142,13 +144,13 @@ plain_branch off c = refl
 
 -- The program at rest: the main stack is empty, and its seal stands.
 record AtRest (s : State) : Type 0 where
-  sp : s.cpu.regs.sp ≡ 805404664
-  seal : word_at s.memory.secure_ram 98300 ≡ 4277530021
+  sp : s.cpu.regs.sp ≡ main_seal
+  seal : word_at s.memory.secure_ram (ram_place (main_seal + 4)) ≡ seal_word
 
 module _ (device : Device) (n : ℕ) (h : GivesConstant device n) where
   return_stops : (s : State) → AtRest s → return_to device s ≡ stopped stop.ReturnFault s
   return_stops s q =
-      let w : World = record { turns = []; events = []; peak = 0; memory = s.memory; msp_ns = s.cpu.msp_ns; psp_ns = s.cpu.psp_ns } in
+      let w : World = record { turns = []; entries = 0; events = []; peak = 0; memory = s.memory; msp_ns = s.cpu.msp_ns; psp_ns = s.cpu.psp_ns } in
       return_quiet device s w (record { sp = q.sp; seal = q.seal; ram = refl; msp = refl; psp = refl })
 
   module _ (m : ℕ) (ts : List Turn) (waiting : (s : State) → AtRest s → s.cpu.side ≡ NonSecure → AllTell device m ts s) (inside : (s : State) → AtRest s → AllTell device m ts (entered first_veneer s)) where
@@ -197,7 +199,7 @@ module _ (device : Device) (n : ℕ) (h : GivesConstant device n) where
         let t2 = answering n u3 in
         let v = aligned 2 s.cpu.regs.lr in
         let last = has_back device entry_place (entry_front n) (Bxns 14 ∷ []) h.entry in
-        all_next device (7 + suc m) ts u2 (went u3) (B 4290777288) refl (plain_branch 4290777288) h.gateway.1.0 (branches device u2 4290777288 entry_place h.gateway.1.0 refl)
+        all_next device (7 + suc m) ts u2 (went u3) (B gateway_offset) refl (plain_branch gateway_offset) h.gateway.1.0 (branches device u2 gateway_offset entry_place h.gateway.1.0 refl)
         (all_straight device (suc m) ts (entry_front n) u3 t2 refl (has_front device entry_place (entry_front n) (Bxns 14 ∷ []) h.entry) (answer_does device n u3) (plain_entry n)
         (λ side. by_bxns v (aligned_even s.cpu.regs.lr) t2 (record { sp = q.sp; seal = q.seal }) last.0 side refl))
 
@@ -229,7 +231,7 @@ module _ (device : Device) (n : ℕ) (h : GivesConstant device n) where
       let hand = has_back device s.cpu.pc stacks_code hand_code front in
       let last = has_back device s.cpu.pc start_front (Bxns 14 ∷ []) has in
       let t1 = handing (sealed s) in
-      let q : AtRest t1 = record { sp = ap (aligned 4) h.stack; seal = seal_stands s whole.secure_ram } in
+      let q : AtRest t1 = record { sp = ap (aligned 4) h.stack; seal = main_high s whole.secure_ram } in
       fewer device k (22 + (19 + suc k)) ts s (omega arith)
       (all_straight device (19 + suc k) ts stacks_code s (sealed s) refl seal (seal_does device s) plain_stacks
       (λ a. all_straight device (suc k) ts hand_code (sealed s) t1 a hand (hand_does device (sealed s)) plain_hand

@@ -21,7 +21,6 @@ use Rattle.ns_types.specs.State.{Device, State, Memory}
 use Rattle.ns_types.specs.Platform.{is_readable, is_secure, is_nonsecure, is_in_rom, aligned}
 use Rattle.ns_types.specs.Memory.{word_at, load}
 use Rattle.ns_types.specs.SecureRam.{main_seal, seal_word, ram_place}
-use Rattle.ns_types.specs.Operators.{subtract}
 use Rattle.ns_types.specs.declared.event.Mark.{Mark}
 use Rattle.ns_types.specs.Boundary.{Acted, acted, in_four, kept_of, view, goes_of, goes_or, goes_outside, function_return}
 use Rattle.ns_types.specs.declared.event.Marked.{Marked}
@@ -38,7 +37,7 @@ use Rattle.ns_turns.specs.Run.{ends, after, event_of}
 use Rattle.v8m_core.proofs.Runs.{does, has_front, has_back}
 use Rattle.ns_turns.proofs.RunLaws.{run_step, run_turn, run_waits, run_comes, run_spent}
 use Rattle.v8m_core.proofs.GateLaws.{aligned_even, aligned_twice}
-use Rattle.constant_entry.specs.Code.{entry_front, entry_place, first_veneer}
+use Rattle.constant_entry.specs.Code.{entry_front, gateway_offset, entry_place, first_veneer}
 use Rattle.constant_entry.specs.Shows.{GivesConstant}
 use Rattle.constant_entry.specs.Meaning.{gives, need}
 use Rattle.constant_entry.proofs.Entering.{enters_first}
@@ -154,7 +153,7 @@ enter_runs device n h ts s k d e =
     let t2 = answering n u3 in
     let runs : Comes device 7 u3 t2 = answer_runs device n u3 (has_front device entry_place (entry_front n) (Bxns 14 ∷ []) h.entry) in
     let last = has_back device entry_place (entry_front n) (Bxns 14 ∷ []) h.entry in
-    run_step device (7 + suc k) ts u2 (went u3) refl (branches device u2 (subtract entry_place (first_veneer + 8)) entry_place h.gateway.1.0 refl)
+    run_step device (7 + suc k) ts u2 (went u3) refl (branches device u2 gateway_offset entry_place h.gateway.1.0 refl)
     ∙ run_comes device 7 (suc k) ts u3 t2 refl runs
     ∙ run_step device k ts t2 d refl (does device t2 (Bxns 14) last.0 ∙ e)
 

@@ -14,15 +14,15 @@ use Rattle.ns_types.specs.Platform.{is_nonsecure, aligned}
 use Rattle.ns_types.specs.Memory.{word_at}
 use Rattle.ns_types.specs.Boundary.{reset_address}
 use Rattle.v8m_core.specs.declared.stepped.Stepped.TheVariants as what
-use Rattle.ns_types.specs.Gateway.{fetched, is_gateway}
+use Rattle.ns_types.specs.Gateway.{fetched, sg_half, is_gateway}
 use Rattle.v8m_core.specs.Step.{Done, went, seen, handed, entered, turned, step_of, bxns, effect_of, apply}
 use Rattle.v8m_core.specs.Values.{sum32}
 use Rattle.v8m_core.specs.Code.{Holds, HasCode, Comes}
 use Rattle.v8m_core.specs.Reset.{reset_of}
 use Rattle.ns_turns.specs.Run.{after, run_of, machine_run}
-use Rattle.constant_entry.specs.Code.{stacks_code, hand_code, start_front, entry_front, start_place, entry_place}
+use Rattle.constant_entry.specs.Code.{stacks_code, hand_code, start_front, entry_front, gateway_offset, start_place, entry_place, first_veneer}
 use Rattle.constant_entry.proofs.States.{sealed, handing, answering}
-use Rattle.constant_entry.specs.Shows.{first_veneer, GivesConstant, CallsFirst, started_view, result_view, two_views, ShowsConstant}
+use Rattle.constant_entry.specs.Shows.{GivesConstant, CallsFirst, started_view, result_view, two_views, ShowsConstant}
 use Rattle.v8m_core.proofs.Runs.{does, comes_on, has_front, has_back}
 use Rattle.ns_turns.proofs.RunLaws.{run_step, run_turn, run_waits, run_comes, fronts}
 use Rattle.v8m_core.proofs.GateLaws.{word_at_lt, clear_bit_0, aligned_even, store_ns_rom, bxns_hands, turn_enters}
@@ -42,9 +42,9 @@ branches device s off to h e = does device s (B off) h ∙ ap (λ p. went (recor
 pub opens : (device : Device) → Holds device first_veneer Sg → is_gateway device first_veneer ≡ true
 unfolding is_gateway size_of code_of
 opens device h =
-    let second : fetched device (first_veneer + 2) ≡ 59775 = ⊎_elim {C = fetched device (first_veneer + 2) ≡ 59775} (λ e. cc) (λ p. p.1) h.second in
-    let first : fetched device first_veneer ≡ 59775 = h.first in
-    ap (λ a. eqb a 59775 && eqb (fetched device (first_veneer + 2)) 59775) first ∙ ap (λ b. eqb b 59775) second
+    let second : fetched device (first_veneer + 2) ≡ sg_half = ⊎_elim {C = fetched device (first_veneer + 2) ≡ sg_half} (λ e. cc) (λ p. p.1) h.second in
+    let first : fetched device first_veneer ≡ sg_half = h.first in
+    ap (λ a. eqb a sg_half && eqb (fetched device (first_veneer + 2)) sg_half) first ∙ ap (λ b. eqb b sg_half) second
 
 pub even_nonsecure : (w : ℕ) → is_nonsecure w ≡ true → is_nonsecure (aligned 2 w) ≡ true
 even_nonsecure w h = grind (arith, nat_tests)
@@ -65,12 +65,12 @@ sealed_ns_rom s = store_ns_rom _ _ _ _ ∙ store_ns_rom _ _ _ _ ∙ store_ns_rom
 pub start_seen : (start : Start) (s : State) → s.memory.ns_rom ≡ start.ns_rom → s.cpu.psp_ns ≡ 0 → seen (handing (sealed s)).cpu (reset_address start) ≡ started_view start
 start_seen start s same psp =
     let zeros : List ℕ = 0 ∷ 0 ∷ 0 ∷ 0 ∷ 0 ∷ 0 ∷ 0 ∷ 0 ∷ 0 ∷ 0 ∷ 0 ∷ 0 ∷ 0 ∷ [] in
-    let all : List ℕ → ℕ → View = λ bytes p. record { r = zeros; lr = bit_and (word_at bytes 4) 4294967294; pc = reset_address start; nzcvq = 0; msp_ns = aligned 4 (word_at bytes 0); psp_ns = p } in
+    let all : List ℕ → ℕ → View = λ bytes p. record { r = zeros; lr = bit_and (word_at bytes 4) 0xFFFFFFFE; pc = reset_address start; nzcvq = 0; msp_ns = aligned 4 (word_at bytes 0); psp_ns = p } in
     ap (λ r. all r s.cpu.psp_ns) (sealed_ns_rom s ∙ same) ∙ ap (all start.ns_rom) psp
     ∙ ap (λ l. let v : View = record { r = zeros; lr = l; pc = reset_address start; nzcvq = 0; msp_ns = aligned 4 (word_at start.ns_rom 0); psp_ns = 0 } in v) (clear_bit_0 (word_at start.ns_rom 4) (word_at_lt start.ns_rom 4))
 
 pub start_lr : (start : Start) (s : State) → s.memory.ns_rom ≡ start.ns_rom → (handing (sealed s)).cpu.regs.lr ≡ reset_address start
-start_lr start s same = ap (λ r. bit_and (word_at r 4) 4294967294) (sealed_ns_rom s ∙ same) ∙ clear_bit_0 (word_at start.ns_rom 4) (word_at_lt start.ns_rom 4)
+start_lr start s same = ap (λ r. bit_and (word_at r 4) 0xFFFFFFFE) (sealed_ns_rom s ∙ same) ∙ clear_bit_0 (word_at start.ns_rom 4) (word_at_lt start.ns_rom 4)
 
 -- from an entry's gateway back to the caller
 answers : (device : Device) (n : ℕ) (h : GivesConstant device n) (t : Turn) (ts : List Turn) (s : State) (k : ℕ) → CallsFirst t → s.cpu.side ≡ NonSecure
@@ -88,7 +88,7 @@ answers device n h t ts s k calls side =
       handed v t2,
       refl,
       run_turn device (suc (7 + suc k)) t ts s (went u2) side (turn_enters device t first_veneer s calls.items target (opens device h.gateway.0))
-          ∙ run_step device (7 + suc k) ts u2 (went u3) refl (branches device u2 4290777288 entry_place h.gateway.1.0 refl)
+          ∙ run_step device (7 + suc k) ts u2 (went u3) refl (branches device u2 gateway_offset entry_place h.gateway.1.0 refl)
           ∙ run_comes device 7 (suc k) ts u3 t2 refl runs
           ∙ run_step device k ts t2 (record { state = handed v t2; what = what.Given (result_view t n) }) refl hands,
     )

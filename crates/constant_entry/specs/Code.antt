@@ -53,9 +53,12 @@ entry_front n = number_code 0 n ++ Movw 1 0 ∷ Mov 2 1 ∷ Mov 3 1 ∷ Mov 12 1
 abbrev pub entry_code : ℕ → List Instr
 entry_code n = entry_front n ++ Bxns 14 ∷ []
 
--- the gateway, and behind it the branch to the entry, whose offset is counted from 4 bytes behind the branch
+-- the branch from the gateway to the entry: it stands behind SG, and its offset is counted from 4 bytes behind its place
+abbrev pub gateway_offset : ℕ
+gateway_offset = subtract entry_place (first_veneer + 8)
+
 abbrev pub gateway_code : List Instr
-gateway_code = Sg ∷ B (subtract entry_place (first_veneer + 8)) ∷ []
+gateway_code = Sg ∷ B gateway_offset ∷ []
 
 -- the main stack pointer, the reset address, and 14 times the place of UDF 0, each address with bit 0 set
 abbrev pub vector_words : List ℕ

@@ -3,15 +3,16 @@ use Rattle.std.specs.Prelude.{◌≡◌, ℕ, ◌+◌, ◌%◌, eqb, ◌⊎◌, 
 use Rattle.ns_types.specs.declared.event.Event.{Event}
 use Rattle.ns_types.specs.declared.event.Event.TheVariants as event
 use Rattle.ns_types.specs.declared.event.End.TheVariants as end
-use Rattle.ns_types.specs.Turns.{Turn}
+use Rattle.ns_types.specs.Turns.{Turn, AreTurns}
 use Rattle.ns_types.specs.declared.turn.Start.{Start}
 use Rattle.ns_types.specs.declared.turn.View.{View}
 use Rattle.ns_types.specs.State.{Device}
 use Rattle.ns_types.specs.Platform.{is_nonsecure}
 use Rattle.ns_types.specs.SecureRam.{main_seal}
-use Rattle.ns_types.specs.Memory.{word_at}
+use Rattle.ns_types.specs.Memory.{word_at, IsStart}
 use Rattle.ns_types.specs.Boundary.{view, in_four, start_mark, turn_mark}
 use Rattle.ns_types.specs.Gateway.{is_gateway}
+use Rattle.ns_types.specs.Stops.{is_clean}
 use Rattle.v8m_core.specs.Code.{HasCode}
 use Rattle.ns_turns.specs.Run.{machine_run}
 use Rattle.ns_types.specs.Prefix.{IsFront}
@@ -47,3 +48,8 @@ two_views start t n = event.Given (started_view start) ∷ event.Given (result_v
 pub record ShowsConstant (device : Device) (n : ℕ) : Type 0 where
   pub front : (start : Start) (t : Turn) (k : ℕ) → is_nonsecure (word_at start.ns_rom 4) ≡ true → CallsFirst t → IsFront (machine_run device start (t ∷ []) k).list (two_views start t n)
   pub both : (start : Start) (t : Turn) → is_nonsecure (word_at start.ns_rom 4) ≡ true → CallsFirst t → (k : ℕ) × (machine_run device start (t ∷ []) k ≡ record { list = two_views start t n; end = end.Waiting })
+
+-- No event of a run of the machine is a stop that only a machine has.
+abbrev pub AlwaysClean : Device → Type 0
+AlwaysClean device =
+    (start : Start) → IsStart start → (ts : List Turn) → AreTurns ts → (k : ℕ) → is_clean (machine_run device start ts k).list ≡ true
