@@ -3,7 +3,7 @@ use Rattle.std.proofs.Common.{◌≡◌, ℕ, ◌+◌, ◌-◌, ◌%◌, Bool, t
 use Rattle.std.specs.Prelude.{eqb, not, ◌&&◌}
 use Rattle.cm_base.specs.declared.stop.Stop.{Stop}
 use Rattle.cm_base.specs.declared.stop.Stop.TheVariants as stop
-use Rattle.v8m_isa.specs.Table.{Decoded, decode_of, is_narrow}
+use Rattle.v8m_isa.specs.Decoding.{Decoded, decode_of, is_narrow}
 use Rattle.ns_types.specs.declared.goes.Goes.{Goes}
 use Rattle.ns_types.specs.declared.goes.Goes.TheVariants as goes
 use Rattle.ns_types.specs.declared.state.Cpu.{Cpu}
@@ -22,7 +22,7 @@ use Rattle.v8m_core.specs.Values.{difference32}
 use Rattle.v8m_core.specs.Lists.{registers, in_list, next, all_stored}
 use Rattle.ns_types.specs.Gateway.{fetched}
 use Rattle.v8m_core.specs.Step.{Done, went, stopped, unless, goes_in, seen, arrived, return_stop, return_to, bx, bxns, limit_stop, link, call_stop, called, only_stopped_by, blxns, effect_of, put, write_register, load_stop, store_stop, pushed_sp, push_stop, pop_stop, pushed, popped, apply, act_or, step_of}
-use Rattle.ns_turns.specs.Moments.{is_write, Tells, none_in_ram, stacks_outside, outside_or, instr_at, StacksOutside}
+use Rattle.ns_turns.specs.Tells.{is_write, Tells, none_in_ram, stacks_outside, outside_or, instr_at, StacksOutside}
 
 -- after a step from s to t
 abbrev pub Leads : Stepped → State → State → Type 0

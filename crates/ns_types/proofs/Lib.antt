@@ -1,4 +1,5 @@
 mod Values
+pub mod TurnLaws
 pub mod Ranges
 pub mod BoundLaws
 pub mod MarkLaws

@@ -1,6 +1,5 @@
 -- Runs of two programs behind the boundary that differ in their need of stack alone, where the second one needs no more.
 use Rattle.std.specs.Prelude.{◌≡◌, ℕ, ◌≤◌, List}
-use Rattle.ns_types.specs.declared.event.End.{End}
 use Rattle.ns_types.specs.CRun.{World, Outcome, Gave, Over, Run}
 
 -- with another need

@@ -1,5 +1,5 @@
 -- How many entries can still be entered, so that what the definitions of a run recurse on is never used up.
-use Rattle.std.specs.Prelude.{◌≡◌, ℕ, suc, ◌+◌, ◌*◌, ◌≤◌, List, length, Option}
+use Rattle.std.specs.Prelude.{◌≡◌, ℕ, suc, ◌+◌, ◌*◌, ◌≤◌, List, length}
 use Rattle.ns_types.specs.CRun.{World, Outcome, Gave, Over}
 
 -- of a bound `turns`, for the entries since the last turn or the start and for those after each turn that is left

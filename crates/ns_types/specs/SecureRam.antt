@@ -1,5 +1,5 @@
 -- What stands where in Secure RAM: Secure data, which belongs to the program, and behind it the stacks of Secure control.
-use Rattle.std.specs.Prelude.{◌≡◌, ℕ, ◌+◌, ◌-◌, take}
+use Rattle.std.specs.Prelude.{◌≡◌, ℕ, ◌-◌, take}
 use Rattle.cm_base.specs.declared.regions.TheConstants.{SECURE_DATA, SECURE_CONTROL, MAIN_SEAL, PROCESS_LIMIT, PROCESS_SEAL, DATA_POINTER, SEAL_WORD}
 use Rattle.ns_types.specs.Platform.{row_size}
 use Rattle.ns_types.specs.State.{Memory}

@@ -1,5 +1,5 @@
 -- Which entry a caller enters where, from the veneers that an import library lists and the entries of a program.
-use Rattle.std.specs.Prelude.{ℕ, zero, suc, cond, eqb, List, [], ◌∷◌, Option, Some, None, bytes_eq, option_map, option_and_then}
+use Rattle.std.specs.Prelude.{ℕ, suc, cond, eqb, List, [], ◌∷◌, Option, Some, None, bytes_eq, option_map, option_and_then}
 use Rattle.ns_types.specs.declared.event.Veneer.{Veneer}
 
 -- the place of a name among names, the first one where it stands more than once

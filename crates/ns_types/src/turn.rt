@@ -1,7 +1,6 @@
 //! What the Non-secure caller sets and sees.
 
-ghost use Rattle.std.specs.Prelude.{◌≡◌, length};
-ghost use Rattle.ns_types.specs.Turns.{AreItems, AreTurns, AreWords, IsTurn};
+ghost use Rattle.ns_types.specs.Turns.{AreItems, AreTurns, AreWords, IsItem, IsTurn, IsWord};
 
 use cm_base::{Bytes, List};
 use std::marker::Model;
@@ -46,28 +45,56 @@ impl Model for Turn {
     ghost Value = { spec.Turn };
 
     ghost view = { λ it. record {
-        r = it.r;
-        lr = it.lr;
-        nzcvq = it.nzcvq;
-        msp_ns = it.msp_ns;
-        psp_ns = it.psp_ns;
-        items = it.items;
-        target = it.target;
+      r = it.r;
+      lr = it.lr;
+      nzcvq = it.nzcvq;
+      msp_ns = it.msp_ns;
+      psp_ns = it.psp_ns;
+      items = it.items;
+      target = it.target;
     } };
 
     ghost invariant = { λ it. it.nzcvq ≤ 31 };
 }
 
-/// Registers are thirteen words.
-fn are_words(r: &[u32; 13])
-    ensures count { length r.now ≡ 13 }
-    ensures words { AreWords r.now }
-{}
+/// A u32 is a number of 32 bits.
+fn is_word(n: &u32)
+    ensures { IsWord n.now }
+{
+    let _n = *n;
+}
 
-/// Items have an address and a byte.
+/// An item has an address and a byte.
+fn is_item(item: &Item)
+    ensures { IsItem item.now }
+{
+    match *item {
+        Item::Write { at, byte } => {
+            let _at = at;
+            let _byte = byte;
+        }
+        Item::Read { at } => {
+            let _at = at;
+        }
+    }
+}
+
+/// So it is with many of them.
+fn are_words(words: &[u32])
+    ensures { AreWords words.now }
+{
+    for word in words {
+        is_word(word);
+    }
+}
+
 fn are_items(items: &[Item])
     ensures { AreItems items.now }
-{}
+{
+    for item in items {
+        is_item(item);
+    }
+}
 
 impl Turn {
     /// Each number of a turn fits where it goes.
@@ -75,8 +102,11 @@ impl Turn {
         ensures { IsTurn self.now }
     {
         are_words(&self.r);
+        is_word(&self.lr);
+        is_word(&self.msp_ns);
+        is_word(&self.psp_ns);
         are_items(self.items.as_slice());
-        let _ = &self.nzcvq;
+        is_word(&self.target);
     }
 
     /// So it is with many turns.

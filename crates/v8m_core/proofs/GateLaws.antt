@@ -11,7 +11,7 @@ use Rattle.ns_types.specs.Platform.{row, in_row, is_secure, is_nonsecure, is_in_
 use Rattle.ns_types.specs.Memory.{word_at, store, put_number}
 use Rattle.ns_types.specs.Boundary.{function_return, goes_or, goes_of, acted}
 use Rattle.v8m_core.specs.declared.stepped.Stepped.TheVariants as what
-use Rattle.ns_types.specs.Gateway.{fetched, is_gateway, gateway_at}
+use Rattle.ns_types.specs.Gateway.{fetched, sg_half, is_gateway, gateway_at}
 use Rattle.v8m_core.specs.Step.{went, stopped, goes_in, seen, entered, handed, return_to, arrived, bxns, turned, turn_of, unless}
 
 pub word_at_lt : (bytes : List ℕ) (o : ℕ) → word_at bytes o < 4294967296
@@ -40,7 +40,7 @@ store_ns_rom size a v m = choose (in_row 1 a) (record m { ns_ram = put_number si
 -- no gateway stands outside the Non-secure callable region
 no_gateway : (device : Device) (a : ℕ) → is_nonsecure a ≡ true → is_gateway device a ≡ false
 unfolding is_gateway
-no_gateway device a h = let out : lies_in 3 a 4 ≡ false = grind (arith, nat_tests) in ap (λ b. b && (eqb (fetched device a) 59775 && eqb (fetched device (a + 2)) 59775)) out
+no_gateway device a h = let out : lies_in 3 a 4 ≡ false = grind (arith, nat_tests) in ap (λ b. b && (eqb (fetched device a) sg_half && eqb (fetched device (a + 2)) sg_half)) out
 
 -- Non-secure memory is where a turn follows
 pub goes_turn : (device : Device) (a : ℕ) → is_nonsecure a ≡ true → a % 2 ≡ 0 → goes_in device a ≡ goes.Turn

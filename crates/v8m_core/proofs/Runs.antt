@@ -4,8 +4,9 @@ use Rattle.std.specs.Prelude.{eqb}
 use Rattle.cm_base.specs.declared.stop.Stop.{Stop}
 use Rattle.cm_base.specs.declared.stop.Stop.TheVariants as stop
 use Rattle.v8m_isa.specs.declared.instr.Instr.{Instr}
-use Rattle.v8m_isa.specs.Table.{Decoded, in_range_of, size_of, code_of, decode_of, is_narrow}
-use Rattle.v8m_isa.proofs.Laws.{decode_of-code_of, decode_of-code_of_narrow, is_narrow-code_of, size_of_two_or_four}
+use Rattle.v8m_isa.specs.Table.{in_range_of, size_of, code_of}
+use Rattle.v8m_isa.specs.Decoding.{Decoded, decode_of, is_narrow}
+use Rattle.v8m_isa.proofs.DecodingLaws.{decode_of-code_of, decode_of-code_of_narrow, is_narrow-code_of, size_of_two_or_four}
 use Rattle.ns_types.specs.declared.goes.Goes.{Goes}
 use Rattle.ns_types.specs.declared.goes.Goes.TheVariants as goes
 use Rattle.ns_types.specs.declared.state.Cpu.{Cpu}

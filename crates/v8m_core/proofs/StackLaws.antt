@@ -3,6 +3,7 @@ use Rattle.std.proofs.Common.{◌≡◌, ℕ, ◌+◌, ◌%◌, ◌≤◌, Bool,
 use Rattle.std.specs.Prelude.{eqb, ltb, not, ◌&&◌}
 use Rattle.std.proofs.lemmas.Bool.Decides.{nat_tests}
 use Rattle.cm_base.specs.declared.stop.Stop.TheVariants as stop
+use Rattle.cm_base.specs.declared.regions.TheConstants.{SECURE_DATA, SECURE_CONTROL}
 use Rattle.ns_types.specs.declared.state.Cpu.{Cpu}
 use Rattle.ns_types.specs.Platform.{is_readable, is_writable, aligned}
 use Rattle.v8m_core.specs.Values.{difference32, sum32}
@@ -13,8 +14,8 @@ use Rattle.v8m_core.proofs.Ram.{readable_where_writable}
 -- a word at a multiple of 4 in Secure RAM
 pub record IsWord (a : ℕ) : Type 0 where
   pub even : a % 4 ≡ 0
-  pub from : 805306368 ≤ a
-  pub to : a + 4 ≤ 805412864
+  pub from : SECURE_DATA.from ≤ a
+  pub to : a + 4 ≤ SECURE_CONTROL.to
 
 pub word_writable : (a : ℕ) → IsWord a → is_writable a 4 ≡ true
 unfolding is_writable
@@ -27,8 +28,8 @@ word_writable a h =
 -- the words of a list from an address on
 pub record AreWords (a bytes : ℕ) : Type 0 where
   pub even : a % 4 ≡ 0
-  pub from : 805306368 ≤ a
-  pub to : a + bytes ≤ 805412864
+  pub from : SECURE_DATA.from ≤ a
+  pub to : a + bytes ≤ SECURE_CONTROL.to
 
 -- a register of the list takes the first word, and another one none
 first_writable : (b : Bool) (a k : ℕ) (rest : ℕ → Bool) → AreWords a (cond b 4 0 + k) → ((x : ℕ) → AreWords x k → rest x ≡ true) → cond b (is_writable a 4 && rest (next a)) (rest a) ≡ true

@@ -3,7 +3,7 @@ use Rattle.std.specs.Prelude.{ℕ, ◌+◌, ◌-◌, ◌/◌, ◌%◌, Bool, con
 use Rattle.cm_base.specs.declared.stop.Stop.{Stop}
 use Rattle.cm_base.specs.declared.stop.Stop.TheVariants as stop
 use Rattle.v8m_isa.specs.declared.instr.Instr.{Instr}
-use Rattle.v8m_isa.specs.Table.{Decoded, decode_of, is_narrow}
+use Rattle.v8m_isa.specs.Decoding.{Decoded, decode_of, is_narrow}
 use Rattle.ns_types.specs.declared.goes.Goes.{Goes}
 use Rattle.ns_types.specs.declared.goes.Goes.TheVariants as goes
 use Rattle.ns_types.specs.declared.state.Cpu.{Cpu}

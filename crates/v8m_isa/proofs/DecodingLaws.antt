@@ -3,7 +3,8 @@ use Rattle.std.proofs.Common.{◌≡◌, ℕ, ◌/◌, ◌%◌, ◌^◌, ◌<◌
 use Rattle.std.specs.Prelude.{eqb, option_map, is_some, IfNone}
 use Rattle.std.proofs.lemmas.Bool.Decides.{nat_tests}
 use Rattle.v8m_isa.specs.declared.instr.Instr.{Instr}
-use Rattle.v8m_isa.specs.Table.{in_range_of, size_of, code_of, Decoded, decode_of, is_of_two_bytes, is_narrow, pair_of, read_by, IsReadAs, IsNoInstr}
+use Rattle.v8m_isa.specs.Table.{in_range_of, size_of, code_of, IsReadAs, IsNoInstr}
+use Rattle.v8m_isa.specs.Decoding.{Decoded, decode_of, is_of_two_bytes, is_narrow, pair_of, read_by}
 use Rattle.v8m_isa.specs.declared.table.Opcode.{Opcode}
 use Rattle.v8m_isa.specs.Choice.{chosen, choices}
 use Rattle.v8m_isa.proofs.TableLaws as table
@@ -22,6 +23,14 @@ decode_of-code_of_narrow i b h e lb = decode-code_of i b h lb (inl e)
 -- What is read has these halfwords, and is in range.
 pub code_of-decode_of : (a b : ℕ) (d : Decoded) → b < 2 ^ 16 → decode_of a b ≡ Some d → IsReadAs a b d.instr d.size
 code_of-decode_of a b d lb e = code_of-decode a b d lb e
+
+-- Halfwords are read as an instruction of this size where they are its halfwords.
+pub decode_of-read : (a b : ℕ) (i : Instr) (size : ℕ) → b < 2 ^ 16 → IsReadAs a b i size → decode_of a b ≡ Some (record { instr = i; size = size })
+decode_of-read a b i size lb r =
+    let same : size_of i ≡ size = sym (encodings.code_of_size i) ∙ r.has_size in
+    let has : (size_of i ≡ 2) ⊎ (b ≡ (code_of i).second) = ⊎_elim (λ s. inl s) (λ s. inr (sym (r.has_second (sym same ∙ s)))) (size_of_cases i) in
+    subst (λ x. decode_of x b ≡ Some (record { instr = i; size = size })) r.has_first
+    (decode-code_of i b r.in_range lb has ∙ ap (λ n. let d : Decoded = record { instr = i; size = n } in Some d) same)
 
 pub size_of_two_or_four : (i : Instr) → (size_of i ≡ 2) ⊎ (size_of i ≡ 4)
 size_of_two_or_four i = size_of_cases i
@@ -107,6 +116,19 @@ is_narrow-code_of i h =
         let at_0 = size_by_top (code_of i).first 0 d (omega arith) e in
         grind (arith, nat_tests)
 
+-- A halfword is an instruction by itself exactly where it is one of size 2.
+pub is_narrow-read : (a b : ℕ) (i : Instr) → IsReadAs a b i 2 → is_narrow a ≡ true
+unfolding is_narrow
+is_narrow-read a b i r =
+    let alone : IsReadAs a 0 i 2 = record { in_range = r.in_range; has_size = r.has_size; has_first = r.has_first; has_second = λ e. absurd (omega arith) } in
+    two_bytes_some (decode_of a 0) (record { instr = i; size = 2 }) (decode_of-read a 0 i 2 (omega arith) alone)
+
+pub read-is_narrow : (a : ℕ) → is_narrow a ≡ true → (i : Instr) × IsReadAs a 0 i 2
+unfolding is_narrow
+read-is_narrow a h =
+    let s = two_bytes (decode_of a 0) h in
+    (s.0.instr, subst (λ n. IsReadAs a 0 s.0.instr n) s.2 (code_of-decode a 0 s.0 (omega arith) s.1))
+
 -- The bodies: what `decode` and `is_narrow` promise, from the value that they give.
 pub back : (a b : ℕ) (r : Option (Instr × ℕ)) → r ≡ option_map pair_of (decode_of a b) → b < 2 ^ 16 → IfSome r (λ p. IsReadAs a b p.0 p.1)
 back a b r e lb = subst (λ q. IfSome q (λ p. IsReadAs a b p.0 p.1)) (sym e) (at (decode_of a b) refl)
@@ -120,10 +142,7 @@ no_instr a b r e lb = subst (λ q. IfNone q (IsNoInstr a b)) (sym e) (at (decode
   where
     at : (x : Option Decoded) → decode_of a b ≡ x → IfNone (option_map pair_of x) (IsNoInstr a b)
     at (Some d) f = tt
-    at None f = λ i r.
-        let has : (size_of i ≡ 2) ⊎ (b ≡ (code_of i).second) = ⊎_elim (λ s. inl s) (λ s. inr (sym (r.has_second s))) (size_of_cases i) in
-        let g = subst (λ x. decode_of x b ≡ Some (record { instr = i; size = size_of i })) r.has_first (decode-code_of i b r.in_range lb has) in
-        cc
+    at None f = λ i r. let g = decode_of-read a b i (size_of i) lb r in cc
 
 pub chosen_none : (a b : ℕ) → b < 2 ^ 16 → chosen choices a b ≡ None → option_map pair_of (decode_of a b) ≡ None
 chosen_none a b lb e = ap (option_map pair_of) (table.decode_is a b lb ∙ ap (λ c. table.read_of c a b) e)
