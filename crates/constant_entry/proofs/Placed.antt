@@ -15,7 +15,7 @@ use Rattle.v8m_core.specs.Step.{fetched, is_gateway}
 use Rattle.v8m_isa.proofs.Laws.{size-code_of, size_of_two_or_four}
 use Rattle.v8m_core.specs.Code.{two, HasCode, instr_bytes, code_bytes, AllInRange}
 use Rattle.v8m_core.proofs.Bytes.{word_at_seam, length_bytes, has_code}
-use Rattle.elf32.specs.Fields.{le32}
+use Rattle.cm_base.specs.LittleEndian.{le32}
 use Rattle.constant_entry.specs.Code.{start_code, entry_code, gateway_code, vectors, used_bytes, gateway_bytes, rom_bytes, start_place, entry_place}
 use Rattle.constant_entry.specs.Shows.{first_veneer, GivesConstant}
 

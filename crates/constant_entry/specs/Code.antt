@@ -4,7 +4,7 @@ use Rattle.std.specs.List.{flat_map}
 use Rattle.v8m_isa.specs.declared.instr.Instr.{Instr}
 use Rattle.v8m_isa.specs.declared.instr.Instr.TheVariants.{Mov, Bxns, Udf, Sg, Movw, Movt, Bic, Ldr, Str, B, Msr}
 use Rattle.v8m_core.specs.Code.{code_bytes}
-use Rattle.elf32.specs.Fields.{le32}
+use Rattle.cm_base.specs.LittleEndian.{le32}
 
 -- a number into a register
 abbrev pub number_code : ℕ → ℕ → List Instr

@@ -7,7 +7,7 @@ ghost use Rattle.std.specs.Prelude.{◌≡◌, ◌++◌, ◌∷◌, [], replicat
 ghost use Rattle.v8m_isa.specs.Table.{in_range_of};
 ghost use Rattle.v8m_core.specs.Code.{instr_bytes, code_bytes};
 ghost use Rattle.std.specs.List.{flat_map};
-ghost use Rattle.elf32.specs.Fields.{le32};
+ghost use Rattle.cm_base.specs.LittleEndian.{le32};
 ghost use Rattle.constant_entry.specs.Code.{start_code, entry_code, vector_words, used_bytes, gateway_bytes};
 
 use cm_base::{Bytes, NoMemory};
