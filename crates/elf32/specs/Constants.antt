@@ -16,7 +16,10 @@ EV_CURRENT = 1
 abbrev pub ELF_MAGIC : ℕ
 ELF_MAGIC = 0x464C457F
 
--- e_type: an object file, and an executable file
+-- e_type: no type, an object file, and an executable file
+abbrev pub ET_NONE : ℕ
+ET_NONE = 0
+
 abbrev pub ET_REL : ℕ
 ET_REL = 1
 

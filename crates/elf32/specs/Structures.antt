@@ -1,7 +1,7 @@
 -- The structures of an ELF32 file and their bytes (System V ABI, Object Files). A field has its name there.
 use Rattle.std.specs.Prelude.{ℕ, ◌+◌, ◌*◌, List, [], ◌∷◌, ◌++◌, flat_map}
 use Rattle.cm_base.specs.LittleEndian.{le16, le32}
-use Rattle.elf32.specs.Constants.{identification, EM_ARM, EV_CURRENT, EF_ARM_EABI_VER5, HEADER_SIZE, SECTION_HEADER_SIZE, SHT_NULL, STB_GLOBAL, STT_FUNC, SHN_UNDEF, SHN_ABS}
+use Rattle.elf32.specs.Constants.{identification, ET_NONE, EM_ARM, EV_CURRENT, EF_ARM_EABI_VER5, HEADER_SIZE, SECTION_HEADER_SIZE, SHT_NULL, STB_GLOBAL, STT_FUNC, SHN_UNDEF, SHN_ABS}
 use Rattle.elf32.specs.declared.structures.FileHeader.{FileHeader}
 use Rattle.elf32.specs.declared.structures.ProgramHeader.{ProgramHeader}
 use Rattle.elf32.specs.declared.structures.SectionHeader.{SectionHeader}
@@ -30,10 +30,10 @@ section_header_bytes s =
 unfoldable pub symbol_bytes : Symbol → List ℕ
 symbol_bytes s = flat_map le32 (s.st_name ∷ s.st_value ∷ s.st_size ∷ []) ++ (s.st_info ∷ s.st_other ∷ le16 s.st_shndx)
 
--- the header of a file of this type for Arm that has no entry and no table
-abbrev pub arm_header : ℕ → FileHeader
-arm_header kind = record {
-  e_type = kind;
+-- the header of a file for Arm that has no type, no entry and no table yet
+abbrev pub arm_header : FileHeader
+arm_header = record {
+  e_type = ET_NONE;
   e_machine = EM_ARM;
   e_version = EV_CURRENT;
   e_entry = 0;

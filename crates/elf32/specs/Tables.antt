@@ -72,5 +72,5 @@ unfoldable pub aligned : ℕ → ℕ
 aligned at = at + padding at
 
 -- a part of a file that stands at an offset, and zero bytes up to the next multiple of 4
-abbrev pub padded : ℕ → List ℕ → List ℕ
+unfoldable pub padded : ℕ → List ℕ → List ℕ
 padded at part = part ++ replicate (padding (at + length part)) 0

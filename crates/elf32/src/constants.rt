@@ -1,5 +1,8 @@
 //! The constants of ELF (System V ABI, Object Files) and of ELF for the Arm Architecture, by their names.
 
+/// e_type: no type.
+pub const ET_NONE: u16 = 0;
+
 /// e_type: an object file.
 pub const ET_REL: u16 = 1;
 

@@ -10,11 +10,11 @@ mod structures;
 mod tables;
 
 pub use constants::{
-    EF_ARM_EABI_VER5, EM_ARM, ET_EXEC, ET_REL, EV_CURRENT, HEADER_SIZE, PF_R, PF_X, PROGRAM_HEADER_SIZE, PT_LOAD,
+    EF_ARM_EABI_VER5, EM_ARM, ET_EXEC, ET_NONE, ET_REL, EV_CURRENT, HEADER_SIZE, PF_R, PF_X, PROGRAM_HEADER_SIZE, PT_LOAD,
     SECTION_HEADER_SIZE, SHN_ABS, SHN_UNDEF, SHT_NULL, SHT_STRTAB, SHT_SYMTAB, STB_GLOBAL, STT_FUNC, SYMBOL_SIZE,
 };
 pub use structures::{
-    FileHeader, NULL_SECTION, NULL_SYMBOL, ProgramHeader, SectionHeader, Symbol, absolute_function, arm_header,
+    ARM_HEADER, FileHeader, NULL_SECTION, NULL_SYMBOL, ProgramHeader, SectionHeader, Symbol, absolute_function,
     put_header, put_program_header, put_section_header, put_symbol,
 };
 pub use tables::{

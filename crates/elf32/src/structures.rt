@@ -1,10 +1,10 @@
 //! The structures of an ELF32 file (System V ABI, Object Files). A field has its name there.
 ghost use Rattle.std.specs.Prelude.{◌≡◌, ◌++◌, flat_map, OnOk};
 ghost use Rattle.cm_base.specs.LittleEndian.{le16, le32};
-ghost use Rattle.elf32.specs.Structures.{header_bytes, program_header_bytes, section_header_bytes, symbol_bytes, arm_header, absolute_function};
+ghost use Rattle.elf32.specs.Structures.{header_bytes, program_header_bytes, section_header_bytes, symbol_bytes, absolute_function};
 
 use crate::constants::{
-    EF_ARM_EABI_VER5, EM_ARM, EV_CURRENT, HEADER_SIZE, SECTION_HEADER_SIZE, SHN_ABS, SHN_UNDEF, SHT_NULL, STB_GLOBAL,
+    EF_ARM_EABI_VER5, EM_ARM, ET_NONE, EV_CURRENT, HEADER_SIZE, SECTION_HEADER_SIZE, SHN_ABS, SHN_UNDEF, SHT_NULL, STB_GLOBAL,
     STT_FUNC,
 };
 use crate::{put16, put32};
@@ -67,6 +67,23 @@ pub struct Symbol {
     pub st_shndx: u16,
 }
 
+/// The header of a file for Arm that has no type, no entry and no table yet.
+pub const ARM_HEADER: FileHeader = FileHeader {
+    e_type: ET_NONE,
+    e_machine: EM_ARM,
+    e_version: EV_CURRENT,
+    e_entry: 0,
+    e_phoff: 0,
+    e_shoff: 0,
+    e_flags: EF_ARM_EABI_VER5,
+    e_ehsize: HEADER_SIZE,
+    e_phentsize: 0,
+    e_phnum: 0,
+    e_shentsize: SECTION_HEADER_SIZE,
+    e_shnum: 0,
+    e_shstrndx: 0,
+};
+
 /// The section header 0.
 pub const NULL_SECTION: SectionHeader = SectionHeader {
     sh_name: 0,
@@ -93,27 +110,6 @@ pub const NULL_SYMBOL: Symbol = Symbol {
 
 /// e_ident: the magic, 32 bits, the byte of least worth first, and the version.
 const IDENTIFICATION: &[u8] = b"\x7fELF\x01\x01\x01\0\0\0\0\0\0\0\0\0";
-
-/// The header of a file of this type for Arm that has no entry and no table.
-pub fn arm_header(e_type: u16) -> FileHeader
-    ensures { result ≡ arm_header e_type }
-{
-    FileHeader {
-        e_type,
-        e_machine: EM_ARM,
-        e_version: EV_CURRENT,
-        e_entry: 0,
-        e_phoff: 0,
-        e_shoff: 0,
-        e_flags: EF_ARM_EABI_VER5,
-        e_ehsize: HEADER_SIZE,
-        e_phentsize: 0,
-        e_phnum: 0,
-        e_shentsize: SECTION_HEADER_SIZE,
-        e_shnum: 0,
-        e_shstrndx: 0,
-    }
-}
 
 /// A global function at an absolute address, whose name isn't placed yet.
 pub fn absolute_function(st_value: u32, st_size: u32) -> Symbol

@@ -139,6 +139,7 @@ fn put_zeros(to: &mut Bytes, n: u32) -> Result<(), NoMemory>
 }
 
 /// Appends a part of a file that stands at an offset, and zero bytes up to the next multiple of 4.
+#[tactic(auto, unfolding(crate::specs::Tables::padded))]
 pub fn put_padded(to: &mut Bytes, at: u32, part: &[u8]) -> Result<(), NoMemory>
     requires { at + length part.now < 2 ^ 32 }
     ensures { OnOk result (to.new ≡ to.old ++ padded at part.now) }
