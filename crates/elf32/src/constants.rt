@@ -1,5 +1,14 @@
 //! The constants of ELF (System V ABI, Object Files) and of ELF for the Arm Architecture, by their names.
 
+/// The first four bytes of e_ident, as the word at 0.
+pub const ELF_MAGIC: u32 = 0x464c_457f;
+
+/// e_ident: the class of 32 bits.
+pub const ELFCLASS32: u8 = 1;
+
+/// e_ident: the byte of least worth first.
+pub const ELFDATA2LSB: u8 = 1;
+
 /// e_type: no type.
 pub const ET_NONE: u16 = 0;
 
