@@ -5,11 +5,10 @@ use Rattle.std.proofs.lemmas.Fmt.{length-decimal-le}
 use Rattle.std.proofs.lemmas.List.{take_all, length-take}
 use Rattle.std.proofs.lemmas.Bool.{cases_lt}
 use Rattle.cm_base.specs.Outside.{Files, held, IsMissing, OthersStay}
-use Rattle.ns_types.specs.Platform.{row_size}
 use Rattle.import_lib.specs.Library.{library_of}
 use Rattle.cmse_build.specs.Constant.{IsConstant, IsEnd}
 use Rattle.cmse_build.specs.Image.{image_of}
-use Rattle.cmse_build.specs.Reading.{rom_of_image, zeros, word, is_entry}
+use Rattle.cmse_build.specs.Reading.{rom_of_image, rom_used_most, zeros, word, is_entry}
 use Rattle.cmse_build.proofs.Ready.{short_name}
 use Rattle.constant_entry.specs.Code.{start_place, rom_bytes, used_bytes, gateway_bytes, constant_device}
 use Rattle.constant_entry.specs.Meaning.{one_veneer}
@@ -137,6 +136,6 @@ pub entry_word : (n : ℕ) → is_entry (start_place + 1) (word (used_bytes n) 4
 entry_word n = refl
 
 -- the ROM that the image reads as
-pub same_rom : (n : ℕ) (rom region : List ℕ) → rom ≡ used_bytes n → region ≡ gateway_bytes → (rom ++ zeros (row_size 2 - length rom)) ++ region ≡ rom_bytes n
+pub same_rom : (n : ℕ) (rom region : List ℕ) → rom ≡ used_bytes n → region ≡ gateway_bytes → (rom ++ zeros (rom_used_most - length rom)) ++ region ≡ rom_bytes n
 unfolding zeros
-same_rom n rom region e f = ap (λ r. (r ++ zeros (row_size 2 - length r)) ++ region) e ∙ ap (λ r. (used_bytes n ++ zeros (row_size 2 - length (used_bytes n))) ++ r) f
+same_rom n rom region e f = ap (λ r. (r ++ zeros (rom_used_most - length r)) ++ region) e ∙ ap (λ r. (used_bytes n ++ zeros (rom_used_most - length (used_bytes n))) ++ r) f
