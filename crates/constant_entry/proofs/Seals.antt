@@ -47,7 +47,7 @@ written : (row : List ℕ) (o : ℕ) → length row ≡ secure_ram_size → o + 
 written row o len le = same_word row o seal_word (subst (λ k. o + 4 ≤ k) (sym len) le) (omega arith)
 
 module _ (s : State) (len : length s.memory.secure_ram ≡ secure_ram_size) where
-  ram : List ℕ
+  abbrev ram : List ℕ
   ram = s.memory.secure_ram
 
   length_one : length (one ram) ≡ secure_ram_size
