@@ -1,6 +1,5 @@
 -- What the start code leaves in memory, and the stacks where it hands over.
 use Rattle.std.proofs.Common.{◌≡◌, ℕ, ◌+◌, ◌≤◌, List, length, refl, ap, ◌∙◌, subst, sym, inl, inr, arith}
-use Rattle.v8m_isa.specs.declared.instr.Instr.TheVariants.{Bxns}
 use Rattle.ns_types.specs.State.{Device, State}
 use Rattle.ns_types.specs.Platform.{aligned}
 use Rattle.ns_types.specs.Memory.{word_at, store, put_word, secure_ram_size}
