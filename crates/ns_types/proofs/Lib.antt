@@ -6,3 +6,6 @@ pub mod MarkLaws
 pub mod ShowLaws
 pub mod Crossings
 pub mod EveryLaws
+pub mod StopLaws
+pub mod AlikeLaws
+pub mod CounterLaws
