@@ -1,5 +1,5 @@
 -- No run has a stop that only a machine has.
-use Rattle.std.proofs.Common.{◌≡◌, ℕ, zero, suc, ◌<◌, ◌≤◌, List, refl, ap, ◌∙◌, ⊎_elim, arith, Option}
+use Rattle.std.proofs.Common.{ℕ, zero, suc, ◌<◌, ◌≤◌, List, refl, ap, ◌∙◌, ⊎_elim, arith, Option}
 use Rattle.ns_types.specs.declared.event.Bound.{Bound}
 use Rattle.ns_types.specs.Turns.{Turn}
 use Rattle.ns_types.specs.declared.turn.Start.{Start}

@@ -1,6 +1,6 @@
 -- A caller enters at the first veneer, and nowhere else.
 use Rattle.std.proofs.Common.{◌≡◌, ℕ, Bool, true, false, cond, List, [], ◌∷◌, refl, sym, ap, subst, Option, Some, None}
-use Rattle.std.specs.Prelude.{eqb, bytes_eq, option_and_then, option_map}
+use Rattle.std.specs.Prelude.{eqb, option_and_then}
 use Rattle.std.proofs.Math.Path.{fun_ext}
 use Rattle.std.proofs.lemmas.Slice.Eq.{bytes_eq-Decides}
 use Rattle.ns_types.specs.Veneers.{place_of}

@@ -1,5 +1,5 @@
 -- The runs of the start code and of an entry that gives a constant.
-use Rattle.std.proofs.Common.{◌≡◌, ℕ, ◌+◌, ◌*◌, ◌/◌, ◌%◌, List, refl, ap, arith}
+use Rattle.std.proofs.Common.{◌≡◌, ℕ, ◌+◌, ◌*◌, ◌/◌, ◌%◌, refl, ap, arith}
 use Rattle.v8m_isa.specs.Table.{size_of}
 use Rattle.ns_types.specs.State.{Device, State}
 use Rattle.ns_types.specs.Platform.{is_readable, is_writable}

@@ -1,18 +1,15 @@
 -- The program needs no more stack than there is, and does the same whatever Secure memory holds at reset.
-use Rattle.std.proofs.Common.{◌≡◌, ℕ, zero, suc, ◌*◌, ◌≤◌, Bool, true, false, cond, List, [], ◌∷◌, length, refl, sym, ap, ◌∙◌, subst, arith, Option, Some, None}
+use Rattle.std.proofs.Common.{◌≡◌, ℕ, zero, suc, ◌*◌, ◌≤◌, Bool, true, false, cond, List, [], ◌∷◌, length, refl, sym, ap, ◌∙◌, arith, Option, Some, None}
 use Rattle.std.specs.Prelude.{max, take, ltb}
 use Rattle.cm_base.specs.declared.stop.Stop.{Stop}
-use Rattle.cm_base.specs.declared.stop.Stop.TheVariants as stop
 use Rattle.ns_types.specs.declared.goes.Goes.{Goes}
 use Rattle.ns_types.specs.declared.goes.Goes.TheVariants as goes
 use Rattle.ns_types.specs.declared.event.CEvent.TheVariants as c
-use Rattle.ns_types.specs.declared.event.Bound.{Bound}
-use Rattle.ns_types.specs.declared.event.End.TheVariants as end
 use Rattle.ns_types.specs.Turns.{Turn}
 use Rattle.ns_types.specs.declared.turn.Start.{Start}
 use Rattle.ns_types.specs.Platform.{aligned}
 use Rattle.ns_types.specs.Boundary.{acted, goes_of, in_four, eight_zeros, kept_of, reset_address}
-use Rattle.ns_types.specs.CRun.{World, Outcome, Gave, Over, then_go, mark_at, emit, reach, counted, chain, phase, take_turn, turned, stop_or, stop_with, at_top, Run, run_of, fresh}
+use Rattle.ns_types.specs.CRun.{World, Outcome, Gave, Over, then_go, mark_at, emit, reach, counted, chain, phase, take_turn, turned, stop_or, at_top, Run, run_of, fresh}
 use Rattle.ns_types.specs.Bounds.{world_of}
 use Rattle.ns_types.specs.Memory.{memory_of}
 use Rattle.ns_types.specs.SecureRam.{room}

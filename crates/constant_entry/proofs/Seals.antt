@@ -1,6 +1,5 @@
 -- What the start code leaves in memory, and the stacks where it hands over.
 use Rattle.std.proofs.Common.{◌≡◌, ℕ, ◌+◌, ◌≤◌, List, length, refl, ap, ◌∙◌, subst, sym, inl, inr, arith}
-use Rattle.v8m_isa.specs.declared.instr.Instr.TheVariants.{Bxns}
 use Rattle.ns_types.specs.State.{Device, State}
 use Rattle.ns_types.specs.Platform.{aligned}
 use Rattle.ns_types.specs.Memory.{word_at, store, put_word, secure_ram_size}
@@ -47,7 +46,7 @@ written : (row : List ℕ) (o : ℕ) → length row ≡ secure_ram_size → o + 
 written row o len le = same_word row o seal_word (subst (λ k. o + 4 ≤ k) (sym len) le) (omega arith)
 
 module _ (s : State) (len : length s.memory.secure_ram ≡ secure_ram_size) where
-  ram : List ℕ
+  abbrev ram : List ℕ
   ram = s.memory.secure_ram
 
   length_one : length (one ram) ≡ secure_ram_size

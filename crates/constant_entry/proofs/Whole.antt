@@ -1,11 +1,11 @@
 -- From reset: the start code, and then turn by turn.
-use Rattle.std.proofs.Common.{◌≡◌, ℕ, suc, ◌+◌, ◌*◌, ◌%◌, ◌≤◌, List, [], ◌++◌, length, refl, sym, ap, ◌∙◌, subst, inl, arith, Some}
+use Rattle.std.proofs.Common.{◌≡◌, ℕ, suc, ◌+◌, ◌*◌, ◌%◌, ◌≤◌, [], ◌++◌, length, refl, sym, ap, ◌∙◌, subst, inl, arith, Some}
 use Rattle.std.specs.Prelude.{eqb, min}
 use Rattle.v8m_isa.specs.declared.instr.Instr.TheVariants.{Bxns}
 use Rattle.v8m_isa.specs.Table.{size_of}
 use Rattle.ns_types.specs.declared.event.CEvent.TheVariants as c
 use Rattle.ns_types.specs.declared.event.Events.{Events}
-use Rattle.ns_types.specs.State.{Device, State}
+use Rattle.ns_types.specs.State.{Device}
 use Rattle.ns_types.specs.Platform.{aligned}
 use Rattle.ns_types.specs.Memory.{word_at, memory_of}
 use Rattle.ns_types.specs.Boundary.{in_four, eight_zeros, goes_of, reset_address, start_mark}

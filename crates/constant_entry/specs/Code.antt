@@ -62,7 +62,7 @@ gateway_code = Sg ∷ B gateway_offset ∷ []
 
 -- the main stack pointer, the reset address, and 14 times the place of UDF 0, each address with bit 0 set
 abbrev pub vector_words : List ℕ
-vector_words = main_seal ∷ start_place + 1 ∷ replicate 14 (stop_place + 1)
+vector_words = main_seal ∷ (start_place + 1) ∷ replicate 14 (stop_place + 1)
 
 abbrev pub vectors : List ℕ
 vectors = flat_map le32 vector_words

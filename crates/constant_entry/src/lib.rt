@@ -11,7 +11,10 @@ ghost use Rattle.v8m_isa.specs.Bytes.{instr_bytes, code_bytes};
 ghost use Rattle.std.specs.List.{flat_map};
 ghost use Rattle.constant_entry.specs.Code.{start_code, entry_code, vector_words, used_bytes, gateway_bytes};
 
-use cm_base::{Bytes, DATA_POINTER, MAIN_SEAL, NSC, NoMemory, PROCESS_LIMIT, PROCESS_SEAL, SEAL_WORD, SECURE_CONTROL, SECURE_DATA, SECURE_ROM};
+use cm_base::{
+    Bytes, DATA_POINTER, MAIN_SEAL, NSC, NoMemory, PROCESS_LIMIT, PROCESS_SEAL, SEAL_WORD,
+    SECURE_CONTROL, SECURE_DATA, SECURE_ROM,
+};
 use elf32::{put16, put32};
 use std::alloc::Global;
 use v8m_isa::{Instr, encode};
@@ -34,20 +37,14 @@ const REST: u32 = NSC.to - NSC.from - 8;
 fn low(d: u32, v: u32) -> Instr
     ensures { result ≡ Movw d (v % 65536) }
 {
-    Instr::Movw {
-        d,
-        i: v % 0x1_0000,
-    }
+    Instr::Movw { d, i: v % 0x1_0000 }
 }
 
 // The high half above it.
 fn high(d: u32, v: u32) -> Instr
     ensures { result ≡ Movt d (v / 65536) }
 {
-    Instr::Movt {
-        d,
-        i: v / 0x1_0000,
-    }
+    Instr::Movt { d, i: v / 0x1_0000 }
 }
 
 fn start_code() -> [Instr; 42]
