@@ -8,7 +8,7 @@ use Rattle.v8m_core.specs.Step.{Done}
 use Rattle.v8m_core.specs.Code.{Comes}
 use Rattle.v8m_core.specs.Reset.{reset_of}
 use Rattle.v8m_core.proofs.Runs.{stays}
-use Rattle.ns_turns.specs.Moments.{Moment, moments_of, moments, given_state}
+use Rattle.ns_turns.specs.Moments.{moments_of, moments, given_state}
 use Rattle.ns_turns.specs.FirstHandOver.{IsSealed, BeginsSealed, AlwaysHandsOverSealed}
 use Rattle.ns_turns.proofs.RunLaws.{comes_secure}
 use Rattle.ns_turns.proofs.RamLaws.{moments_step, no_moment}

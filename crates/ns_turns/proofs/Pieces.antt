@@ -1,5 +1,5 @@
 -- Runs piece by piece: laws of RunsTo and RunsToStop.
-use Rattle.std.proofs.Common.{◌≡◌, ℕ, suc, ◌+◌, List, [], ◌∷◌, ◌++◌, length, refl, sym, ap, ◌∙◌, arith, append_assoc}
+use Rattle.std.proofs.Common.{◌≡◌, ℕ, suc, ◌+◌, List, [], ◌∷◌, ◌++◌, length, refl, ap, ◌∙◌, arith}
 use Rattle.cm_base.specs.declared.stop.Stop.{Stop}
 use Rattle.v8m_isa.specs.declared.instr.Instr.{Instr}
 use Rattle.ns_types.specs.declared.event.Event.{Event}

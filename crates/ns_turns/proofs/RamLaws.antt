@@ -24,7 +24,7 @@ use Rattle.ns_types.proofs.Crossings.{ram_same}
 use Rattle.v8m_core.specs.declared.stepped.Stepped.{Stepped}
 use Rattle.v8m_core.specs.declared.stepped.Stepped.TheVariants as what
 use Rattle.ns_types.specs.Gateway.{fetched, is_gateway, gateway_at}
-use Rattle.v8m_core.specs.Step.{Done, went, stopped, unless, goes_in, handed, entered, returned, return_stop, return_to, arrived, turned, step_of, turn_of}
+use Rattle.v8m_core.specs.Step.{Done, went, stopped, or_stopped, goes_in, handed, entered, returned, return_stop, return_to, arrived, with_turn, step_of, turn_of}
 use Rattle.v8m_core.specs.Reset.{reset_of}
 use Rattle.v8m_core.proofs.Runs.{stays}
 use Rattle.ns_turns.specs.Run.{event_of, ends, after, next_of, run_of, machine_run}
@@ -180,7 +180,7 @@ module _ (device : Device) (n : ℕ) (ts : List Turn) where
       is_moved : (b : Bool) → crosses (gateway_at device) t ≡ b → moved_past (gateway_at device) (t ∷ ts) ram ≡ moved b
       is_moved b q = ap moved q
 
-      back : (o : Option Stop) (a : ℕ) → AllTell device n ts (unless o u (went (returned a u))).state → CountsAfter (unless o u (went (returned a u))) k (moved true)
+      back : (o : Option Stop) (a : ℕ) → AllTell device n ts (or_stopped o u (went (returned a u))).state → CountsAfter (or_stopped o u (went (returned a u))) k (moved true)
       back None a tells = counts_from (returned a u) k Secure refl next same (h (returned a u) tells k)
       back (Some x) a tells = counts_over x u k (moved true)
 
@@ -200,9 +200,9 @@ module _ (device : Device) (n : ℕ) (ts : List Turn) where
   counts_turn t s h k tell = by (acted t.items s.memory.ns_ram).stop refl tell
     where
       u : State
-      u = turned t (acted t.items s.memory.ns_ram).ram s
+      u = with_turn t (acted t.items s.memory.ns_ram).ram s
 
-      by : (o : Option Stop) → (acted t.items s.memory.ns_ram).stop ≡ o → AllTell device n ts (unless o u (arrived device (goes_in device t.target) (aligned 2 t.target) what.Went u)).state → CountsAfter (unless o u (arrived device (goes_in device t.target) (aligned 2 t.target) what.Went u)) k (moved_past (gateway_at device) (t ∷ ts) s.memory.ns_ram)
+      by : (o : Option Stop) → (acted t.items s.memory.ns_ram).stop ≡ o → AllTell device n ts (or_stopped o u (arrived device (goes_in device t.target) (aligned 2 t.target) what.Went u)).state → CountsAfter (or_stopped o u (arrived device (goes_in device t.target) (aligned 2 t.target) what.Went u)) k (moved_past (gateway_at device) (t ∷ ts) s.memory.ns_ram)
       by None e tells = counts_branch t s.memory.ns_ram u (acted_all t.items s.memory.ns_ram e) (goes_in device t.target) refl h k tells
       by (Some x) e tells = counts_over x u k (moved_past (gateway_at device) (t ∷ ts) s.memory.ns_ram)
 

@@ -22,6 +22,9 @@ use Rattle.ns_turns.specs.Unseen.{Unseen, IgnoresSecure, HasRoom}
 use Rattle.ns_turns.proofs.RunLaws.{run_goes}
 use Rattle.ns_turns.proofs.OnlyLaws.{is_spent}
 
+one_more : (x y : Event) (xs ys : List Event) → x ≡ y → IsFront xs ys → IsFront (x ∷ xs) (y ∷ ys)
+one_more x y xs ys same f = (f.0, ap (λ l. x ∷ l) f.1 ∙ ap (λ z. z ∷ ys) same)
+
 -- of two fronts of a list one is a front of the other
 two_fronts : (xs ys zs : List Event) → IsFront xs zs → IsFront ys zs → IsFront xs ys ⊎ IsFront ys xs
 two_fronts [] ys zs f g = inl (ys, refl)
@@ -34,8 +37,8 @@ two_fronts (x ∷ xs) (y ∷ ys) (z ∷ zs) f g =
     let rest : xs ++ f.0 ≡ zs = cc in
     let rest2 : ys ++ g.0 ≡ zs = cc in
     ⊎_elim
-    (λ h. inl (h.0, ap (λ l. x ∷ l) h.1 ∙ ap (λ w. w ∷ ys) same))
-    (λ h. inr (h.0, ap (λ l. y ∷ l) h.1 ∙ ap (λ w. w ∷ xs) (sym same)))
+    (λ h. inl (one_more x y xs ys same h))
+    (λ h. inr (one_more y x ys xs (sym same) h))
     (two_fronts xs ys zs (f.0, rest) (g.0, rest2))
 
 -- a run of the machine shows only what a program shows, and all of it where it is over

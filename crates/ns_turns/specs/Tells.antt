@@ -10,7 +10,7 @@ use Rattle.v8m_core.specs.declared.stepped.Stepped.{Stepped}
 use Rattle.v8m_core.specs.declared.stepped.Stepped.TheVariants as what
 use Rattle.v8m_core.specs.declared.effect.Effect.{Effect}
 use Rattle.v8m_core.specs.declared.effect.Effect.TheVariants as effect
-use Rattle.v8m_core.specs.Values.{difference32}
+use Rattle.ns_types.specs.Operators.{subtract}
 use Rattle.v8m_core.specs.Lists.{registers, in_list, next}
 use Rattle.v8m_core.specs.Step.{effect_of, pushed_sp, step_of, turn_of}
 use Rattle.ns_turns.specs.Run.{next_of}
@@ -34,7 +34,7 @@ none_in_ram list (n ∷ ns) a = cond (in_list list n) (not (in_row 1 a) && none_
 abbrev pub stacks_outside : Effect → Cpu → Bool
 stacks_outside (effect.Push list) c = none_in_ram list registers (pushed_sp list c)
 stacks_outside (effect.Blxns v) c =
-    let sp = difference32 c.regs.sp 8 in cond (eqb (v % 2) 0) (not (in_row 1 sp) && not (in_row 1 (next sp))) true
+    let sp = subtract c.regs.sp 8 in cond (eqb (v % 2) 0) (not (in_row 1 sp) && not (in_row 1 (next sp))) true
 stacks_outside _ c = true
 
 -- the instruction at the program counter, as a step decodes it

@@ -1,5 +1,5 @@
 -- What holds of each event of a run.
-use Rattle.std.specs.Prelude.{ℕ, List, [], ◌∷◌}
+use Rattle.std.specs.Prelude.{◌≡◌, ℕ, Bool, true, List, [], ◌∷◌}
 use Rattle.cm_base.specs.declared.stop.Stop.TheVariants.{EntryPoint, Access, ReturnFault, Astray}
 use Rattle.ns_types.specs.declared.event.CEvent.{CEvent}
 use Rattle.ns_types.specs.declared.event.CEvent.TheVariants as c
@@ -11,6 +11,10 @@ use Rattle.ns_types.specs.Bounds.{world_of}
 abbrev pub EveryEvent : (CEvent → Type 0) → List Marked → Type 0
 EveryEvent P [] = Unit {0}
 EveryEvent P (m ∷ ms) = P m.event × EveryEvent P ms
+
+-- an event passes a test
+abbrev pub Passes : (CEvent → Bool) → CEvent → Type 0
+Passes p e = p e ≡ true
 
 -- it holds of the events that the boundary itself makes: the start, each result, and the stops of branches and items
 pub record HoldsAtBoundary (P : CEvent → Type 0) : Type 0 where
