@@ -108,6 +108,7 @@ entry_at a =
     enters_of (record { name = codes "one"; address = 0x103FF008 } ∷ record { name = codes "twice"; address = 0x103FF000 } ∷ record { name = codes "poke"; address = 0x103FF010 } ∷ [])
     (codes "twice" ∷ codes "one" ∷ codes "poke" ∷ []) a
 
+-- an access's events, and its outcome
 abbrev told : List CEvent → World → World
 told [] w = w
 told (e ∷ es) w = told es (emit_plain e w)
@@ -122,11 +123,12 @@ bodies turns zero need e args w = Over end.Spent w
 bodies turns (suc deep) need zero args w =
     let a = slice_index args 1 in
     let target = aligned 2 (slice_index args 0) in
-    then_go (phase entry_at (bodies turns deep (need + 156)) turns (length w.turns) (emit (c.Called target (a ∷ [])) (mark_at target eight_zeros w) (reach (need + 156) w))) (λ r u. Gave (add r a) u)
+    let called = emit (c.Called target (a ∷ [])) (mark_at target eight_zeros w) (reach (need + 156) w) in
+    then_go (phase entry_at (bodies turns deep (need + 156)) turns (length w.turns) called) (λ r u. Gave (add r a) u)
 bodies turns (suc deep) need (suc zero) args w = Gave (add (slice_index args 0) 1) (reach (need + 132) w)
 bodies turns (suc deep) need (suc (suc e)) args w = wrote (write_access 4 (slice_index args 0) (slice_index args 1) w.memory) (reach (need + 144) w)
 
--- they only go on, nested phases included
+-- the bodies only go on, nested phases included
 all_told : (es : List CEvent) (w : World) → GoesOnTo w (told es w)
 all_told [] w = stays w
 all_told (e ∷ es) w = let f = all_told es (emit_plain e w) in record { turns = f.turns; entries = f.entries }
@@ -139,9 +141,11 @@ body_goes_on : (turns deep need : ℕ) → OnlyGoOn (bodies turns deep (need + 1
 body_goes_on turns deep need inner zero args w =
     let target = aligned 2 (slice_index args 0) in
     let u = emit (c.Called target (slice_index args 1 ∷ [])) (mark_at target eight_zeros w) (reach (need + 156) w) in
-    let turned = phase entry_at (bodies turns deep (need + 156)) turns (length w.turns) u in
+    let enter = bodies turns deep (need + 156) in
+    let rest = phase entry_at enter turns (length w.turns) u in
     let f = stays w in
-    on_then w turned _ (earlier w u turned (record { turns = f.turns; entries = f.entries }) (phase_goes_on entry_at (bodies turns deep (need + 156)) inner turns (length w.turns) u)) (λ r v. record { by = stays v })
+    on_then w rest _ (earlier w u rest (record { turns = f.turns; entries = f.entries }) (phase_goes_on entry_at enter inner turns (length w.turns) u))
+    (λ r v. record { by = stays v })
 body_goes_on turns deep need inner (suc zero) args w = let f = stays w in record { by = record { turns = f.turns; entries = f.entries } }
 body_goes_on turns deep need inner (suc (suc e)) args w =
     let u = reach (need + 144) w in
