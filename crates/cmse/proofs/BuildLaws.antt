@@ -3,45 +3,44 @@ use Rattle.std.proofs.Common.{◌≡◌, ◌≢◌, ℕ, ◌+◌, ◌-◌, ◌<�
 use Rattle.std.specs.Fmt.{decimal}
 use Rattle.std.proofs.lemmas.Fmt.{length-decimal-le}
 use Rattle.std.proofs.lemmas.List.{take_all, length-take}
+use Rattle.std.proofs.lemmas.Bool.{cases_lt}
 use Rattle.cm_base.specs.Outside.{Files, held, IsMissing, OthersStay}
 use Rattle.import_lib.specs.Library.{library_of}
 use Rattle.cmse_build.specs.Constant.{IsConstant, IsEnd}
-use Rattle.std.proofs.lemmas.Bool.{cases_lt}
-use Rattle.cmse_build.specs.Reading.{rom_of_image, zeros, word, is_entry}
+use Rattle.cmse_build.specs.Image.{image_of}
+use Rattle.cmse_build.specs.Reading.{rom_of_image, rom_used_most, zeros, word, is_entry}
 use Rattle.cmse_build.proofs.Ready.{short_name}
-use Rattle.ns_turns.proofs.OnlyLaws.{only_from_refines}
-use Rattle.ns_turns.proofs.SightLaws.{two_worlds}
-use Rattle.constant_entry.specs.Code.{rom_bytes, used_bytes, gateway_bytes}
-use Rattle.constant_entry.specs.Meaning.{enters_first, constant_run}
-use Rattle.constant_entry.proofs.Views.{shows_constant}
-use Rattle.constant_entry.proofs.Whole.{refines}
-use Rattle.constant_entry.proofs.Clean.{clean_run}
-use Rattle.constant_entry.proofs.Tracked.{tells_all}
-use Rattle.constant_entry.proofs.Quiet.{knows_ram}
+use Rattle.constant_entry.specs.Code.{start_place, rom_bytes, used_bytes, gateway_bytes, constant_device}
+use Rattle.constant_entry.specs.Meaning.{one_veneer}
 use Rattle.constant_entry.proofs.Placed.{gives_constant}
+use Rattle.constant_entry.proofs.Views.{shows_constant}
+use Rattle.constant_entry.proofs.OneEntry.{refines_one, only_one, worlds_one, ram_one, unseen_one, clean_one, sealed_one}
 use Rattle.cmse.specs.declared.status.Status.{Status}
 use Rattle.cmse.specs.declared.status.Status.TheVariants.{Done, Refused, BadWords, CannotRead, CannotWrite, NoMemory, BadInput}
-use Rattle.cmse.specs.Files.{Delivers, Holds, OthersThanStay, IsReadFault}
-use Rattle.cmse.specs.Build.{one_veneer, Builds, IsOther, refusal_of, IsRefusalOf, Delivered, Listed, BuildEnds}
+use Rattle.cmse.specs.Files.{FilesChange, FilesStay, OthersThanStay}
+use Rattle.cmse.specs.Build.{one_gate, Builds, IsOther, BuildEnds}
+use Rattle.cmse.specs.Steps.{Holds, IsReadFault, Delivers, IsRefusalOf}
 
 -- what is built from a text of the form
-pub builds : (text name lib img : List ℕ) (n : ℕ) → IsConstant text name n → lib ≡ library_of (one_veneer name) → rom_of_image img ≡ Ok (rom_bytes n) → Builds text lib img
-builds text name lib img n form lists reads =
+pub builds : (text name lib img : List ℕ) (n : ℕ) → IsConstant text name n → lib ≡ library_of (one_veneer name) → img ≡ image_of (start_place + 1) (used_bytes n) gateway_bytes (one_gate name) → rom_of_image img ≡ Ok (rom_bytes n) → Builds text lib img
+builds text name lib img n form lists file reads =
     let small : n < 4294967296 = let le = form.is_int in omega arith in
-    let holds = gives_constant n small in
-    let does = refines (rom_bytes n) n holds in
     record {
       name = name;
       n = n;
       form = form;
       lists = lists;
-      rom = rom_bytes n;
+      file = file;
+      device = constant_device n;
       reads = reads;
-      shows = shows_constant (rom_bytes n) n holds;
-      does = does;
-      only = only_from_refines (rom_bytes n) enters_first (constant_run n) does (clean_run n);
-      worlds = two_worlds (rom_bytes n) enters_first (constant_run n) does (tells_all n);
-      ram = knows_ram (rom_bytes n) n holds;
+      shows = shows_constant (constant_device n) n (gives_constant n small);
+      begins = sealed_one n small;
+      does = refines_one name n small;
+      only = only_one name n small;
+      no_stop = clean_one name n small;
+      unseen = unseen_one name n small;
+      worlds = worlds_one name n small;
+      ram = ram_one name n small;
     }
 
 end_short : (rest : List ℕ) → IsEnd rest → length rest ≤ 4
@@ -89,36 +88,26 @@ told : (old new : Option Files) → is_some new ≡ is_some old → IsSome old �
 told old new e h = e ∙ h
 
 -- after the writes
-pub deliver_ends : (old new : Option Files) (reads writes : Type 0) (library lib image img source text : List ℕ) (status : Status) → is_some new ≡ is_some old → Delivers old new writes library lib image img status → Builds text lib img → (IsSome old → held old source ≡ Some text) → BuildEnds old new reads writes image library source status
-deliver_ends old new reads writes library lib image img source text Done e d b h = (λ t. (text, lib, img, h t, d.0 (told old new e t), d.1 (told old new e t), b), d.2)
-deliver_ends old new reads writes library lib image img source text (Refused refusal) e d b h = absurd d
-deliver_ends old new reads writes library lib image img source text (BadWords k) e d b h = absurd d
-deliver_ends old new reads writes library lib image img source text (CannotRead file) e d b h = absurd d
-deliver_ends old new reads writes library lib image img source text (CannotWrite file) e d b h =
-    (d.0, ⊎_elim (λ x. inl x) (λ x. inr (x.0, (λ t. (text, lib, img, h t, x.1 (told old new e t), b)), x.2)) d.1)
-deliver_ends old new reads writes library lib image img source text NoMemory e d b h =
-    (d.0, ⊎_elim (λ x. inl x) (λ x. inr (λ t. (text, lib, img, h t, x (told old new e t), b))) d.1)
-deliver_ends old new reads writes library lib image img source text (BadInput file at) e d b h = absurd d
+pub deliver_ends : (c : FilesChange) (library lib image img source text : List ℕ) (status : Status) → is_some c.new ≡ is_some c.old → Delivers c.old c.new c.writes library lib image img status → Builds text lib img → (IsSome c.old → held c.old source ≡ Some text) → BuildEnds c image library source status
+deliver_ends c library lib image img source text Done e d b h =
+    (λ t. (text, lib, img, h t, d.0 (told c.old c.new e t), d.1 (told c.old c.new e t), b), d.2)
+deliver_ends c library lib image img source text (CannotWrite file) e d b h =
+    (d.0, ⊎_elim (λ x. inl x) (λ x. inr (x.0, (λ t. (text, lib, img, h t, x.1 (told c.old c.new e t), b)), x.2)) d.1)
+deliver_ends c library lib image img source text NoMemory e d b h =
+    (d.0, ⊎_elim (λ x. inl x) (λ x. inr (λ t. (text, lib, img, h t, x (told c.old c.new e t), b))) d.1)
+deliver_ends c library lib image img source text _ e d b h = absurd d
 
 -- after a read that was refused
-pub read_ends : (old new : Option Files) (reads writes : Type 0) (image library source : List ℕ) (status : Status) → new ≡ old → IsReadFault status source (reads ⊎ IsMissing old source) → BuildEnds old new reads writes image library source status
-read_ends old new reads writes image library source Done e d = absurd d
-read_ends old new reads writes image library source (Refused refusal) e d = absurd d
-read_ends old new reads writes image library source (BadWords k) e d = absurd d
-read_ends old new reads writes image library source (CannotRead file) e d = (d.0, d.1, e)
-read_ends old new reads writes image library source (CannotWrite file) e d = absurd d
-read_ends old new reads writes image library source NoMemory e d = ((λ other ne. ap (λ f. held f other) e), inl (ap (λ f. held f library) e))
-read_ends old new reads writes image library source (BadInput file at) e d = absurd d
+pub read_ends : (c : FilesChange) (image library source : List ℕ) (status : Status) → FilesStay c → IsReadFault status source (c.reads ⊎ IsMissing c.old source) → BuildEnds c image library source status
+read_ends c image library source (CannotRead file) e d = (d.0, d.1, e)
+read_ends c image library source NoMemory e d = ((λ other ne. ap (λ f. held f other) e), inl (ap (λ f. held f library) e))
+read_ends c image library source _ e d = absurd d
 
 -- after the refusal of a source
-pub refused_ends : (old new : Option Files) (reads writes : Type 0) (image library source : List ℕ) (status : Status) → new ≡ old → IsRefusalOf source status → (IsSome old → (text : List ℕ) × (held old source ≡ Some text) × IsOther text) → BuildEnds old new reads writes image library source status
-refused_ends old new reads writes image library source Done e d h = absurd d
-refused_ends old new reads writes image library source (Refused refusal) e d h = (d, e, h)
-refused_ends old new reads writes image library source (BadWords k) e d h = absurd d
-refused_ends old new reads writes image library source (CannotRead file) e d h = absurd d
-refused_ends old new reads writes image library source (CannotWrite file) e d h = absurd d
-refused_ends old new reads writes image library source NoMemory e d h = ((λ other ne. ap (λ f. held f other) e), inl (ap (λ f. held f library) e))
-refused_ends old new reads writes image library source (BadInput file at) e d h = absurd d
+pub refused_ends : (c : FilesChange) (image library source : List ℕ) (status : Status) → FilesStay c → IsRefusalOf source status → (IsSome c.old → (text : List ℕ) × (held c.old source ≡ Some text) × IsOther text) → BuildEnds c image library source status
+refused_ends c image library source (Refused refusal) e d h = (d, e, h)
+refused_ends c image library source NoMemory e d h = ((λ other ne. ap (λ f. held f other) e), inl (ap (λ f. held f library) e))
+refused_ends c image library source _ e d h = absurd d
 
 nat_same : (x y : ℕ) → (x ≡ y) ⊎ (x ≢ y)
 nat_same x y =
@@ -143,10 +132,10 @@ second_ends old mid new writes library lib image img apart wrote first same seco
 )
 
 -- the word that the image's entry is held against
-pub entry_word : (n : ℕ) → is_entry 268435521 (word (used_bytes n) 4) ≡ true
+pub entry_word : (n : ℕ) → is_entry (start_place + 1) (word (used_bytes n) 4) ≡ true
 entry_word n = refl
 
 -- the ROM that the image reads as
-pub same_rom : (n : ℕ) (rom region : List ℕ) → rom ≡ used_bytes n → region ≡ gateway_bytes → (rom ++ zeros (4190208 - length rom)) ++ region ≡ rom_bytes n
+pub same_rom : (n : ℕ) (rom region : List ℕ) → rom ≡ used_bytes n → region ≡ gateway_bytes → (rom ++ zeros (rom_used_most - length rom)) ++ region ≡ rom_bytes n
 unfolding zeros
-same_rom n rom region e f = ap (λ r. (r ++ zeros (4190208 - length r)) ++ region) e ∙ ap (λ r. (used_bytes n ++ zeros (4190208 - length (used_bytes n))) ++ r) f
+same_rom n rom region e f = ap (λ r. (r ++ zeros (rom_used_most - length r)) ++ region) e ∙ ap (λ r. (used_bytes n ++ zeros (rom_used_most - length (used_bytes n))) ++ r) f

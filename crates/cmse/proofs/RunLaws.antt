@@ -3,13 +3,14 @@ use Rattle.std.proofs.Common.{◌≡◌, ℕ, ◌+◌, ◌≤◌, ◌<◌, ◌�
 use Rattle.std.proofs.lemmas.Bool.{cases_lt}
 use Rattle.std.proofs.lemmas.Bool.Decides.{nat_tests}
 use Rattle.std.proofs.lemmas.List.{take_all, length-take}
-use Rattle.cm_base.specs.Outside.{Files, held, IsMissing, given_more, GrownByPrefix}
+use Rattle.cm_base.specs.Outside.{Files, held}
 use Rattle.cmse_build.specs.Reading.{rom_of_image}
 use Rattle.ns_script.specs.Script.{script_of}
 use Rattle.cmse.specs.declared.status.Status.{Status}
-use Rattle.cmse.specs.declared.status.Status.TheVariants.{Done, Refused, BadWords, CannotRead, CannotWrite, NoMemory, BadInput}
-use Rattle.cmse.specs.Files.{IsReadFault}
-use Rattle.cmse.specs.Run.{Unfit, in_image, in_script, at_most, fit_then, rom_read, script_read, transcript_for, played, Plays, PutPart, Unread, RunEnds, PutEnds, IsUnfit}
+use Rattle.cmse.specs.declared.status.Status.TheVariants.{Done, CannotWrite, NoMemory, BadInput}
+use Rattle.cmse.specs.Files.{Change, OutputStays}
+use Rattle.cmse.specs.Run.{Unfit, in_image, in_script, unfit_file, unfit_at, at_most, fit_then, rom_read, script_read, transcript_for, played, Plays, RunEnds}
+use Rattle.cmse.specs.Steps.{PutEnds, IsUnfit}
 
 at_most_short : {A : Type 0} → (most at : ℕ) (f : List ℕ → Result A ℕ) (bytes : List ℕ) → length bytes ≤ most → at_most most at f bytes ≡ f bytes
 at_most_short most at f bytes le = let b : nat_le (length bytes) most ≡ true = grind (arith, nat_tests) in rw b refl
@@ -58,31 +59,14 @@ read_later old mid script bytes stay value told =
     subst (λ f. option_map (take 16777217) (held f script) ≡ Some bytes) stay (value (subst IsSome (sym stay) told))
 
 -- after the put
-pub put_ends : (files : Option Files) (reads puts : Type 0) (before after : Option (List ℕ)) (steps : ℕ) (image script text : List ℕ) (status : Status) → PutEnds before after puts text status → Plays files image script steps (Ok text) → RunEnds files reads before after puts steps image script status
-put_ends files reads puts before after steps image script text Done d p = (text, p, d)
-put_ends files reads puts before after steps image script text (Refused refusal) d p = absurd d
-put_ends files reads puts before after steps image script text (BadWords k) d p = absurd d
-put_ends files reads puts before after steps image script text (CannotRead file) d p = absurd d
-put_ends files reads puts before after steps image script text (CannotWrite file) d p = (d.0, d.1, (text, p, d.2))
-put_ends files reads puts before after steps image script text NoMemory d p = ⊎_elim (λ e. inl e) (λ g. inr (text, p, g)) d
-put_ends files reads puts before after steps image script text (BadInput file at) d p = absurd d
+pub put_ends : (c : Change) (steps : ℕ) (image script text : List ℕ) (status : Status) → PutEnds c.output text status → Plays c.files.old image script steps (Ok text) → RunEnds c steps image script status
+put_ends c steps image script text Done d p = (text, p, d)
+put_ends c steps image script text (CannotWrite file) d p = (d.0, d.1, (text, p, d.2))
+put_ends c steps image script text NoMemory d p = ⊎_elim (λ e. inl e) (λ g. inr (text, p, g)) d
+put_ends c steps image script text _ d p = absurd d
 
--- after a test that refused the image
-pub image_unfit : (files : Option Files) (reads puts : Type 0) (before after : Option (List ℕ)) (steps : ℕ) (image script : List ℕ) (place : ℕ) (status : Status) → after ≡ before → IsUnfit image place status → Plays files image script steps (Err (in_image place)) → RunEnds files reads before after puts steps image script status
-image_unfit files reads puts before after steps image script place Done e d p = absurd d
-image_unfit files reads puts before after steps image script place (Refused refusal) e d p = absurd d
-image_unfit files reads puts before after steps image script place (BadWords k) e d p = absurd d
-image_unfit files reads puts before after steps image script place (CannotRead file) e d p = absurd d
-image_unfit files reads puts before after steps image script place (CannotWrite file) e d p = absurd d
-image_unfit files reads puts before after steps image script place NoMemory e d p = inl e
-image_unfit files reads puts before after steps image script place (BadInput file at) e d p = (e, (in_image place, d.0, d.1, p))
-
--- after a test that refused the script
-pub script_unfit : (files : Option Files) (reads puts : Type 0) (before after : Option (List ℕ)) (steps : ℕ) (image script : List ℕ) (place : ℕ) (status : Status) → after ≡ before → IsUnfit script place status → Plays files image script steps (Err (in_script place)) → RunEnds files reads before after puts steps image script status
-script_unfit files reads puts before after steps image script place Done e d p = absurd d
-script_unfit files reads puts before after steps image script place (Refused refusal) e d p = absurd d
-script_unfit files reads puts before after steps image script place (BadWords k) e d p = absurd d
-script_unfit files reads puts before after steps image script place (CannotRead file) e d p = absurd d
-script_unfit files reads puts before after steps image script place (CannotWrite file) e d p = absurd d
-script_unfit files reads puts before after steps image script place NoMemory e d p = inl e
-script_unfit files reads puts before after steps image script place (BadInput file at) e d p = (e, (in_script place, d.0, d.1, p))
+-- after a test that refused a file
+pub unfit_ends : (c : Change) (steps : ℕ) (image script : List ℕ) (unfit : Unfit) (status : Status) → OutputStays c.output → IsUnfit (unfit_file image script unfit) (unfit_at unfit) status → Plays c.files.old image script steps (Err unfit) → RunEnds c steps image script status
+unfit_ends c steps image script unfit NoMemory e d p = inl e
+unfit_ends c steps image script unfit (BadInput file at) e d p = (e, (unfit, d.0, d.1, p))
+unfit_ends c steps image script unfit _ e d p = absurd d

@@ -4,3 +4,4 @@ pub mod Files
 pub mod Build
 pub mod Run
 pub mod Command
+pub mod Steps

@@ -1,12 +1,15 @@
 //! The command `build`: from a source to an image and an import library.
 
-ghost use Rattle.std.specs.Prelude.{◌≡◌, ◌≢◌, ◌≤◌, ◌<◌, ◌^◌, true, Ok, IfOk, MatchOption, is_some};
+ghost use Rattle.std.specs.Prelude.{◌≡◌, ◌≢◌, ◌≤◌, ◌+◌, true, Ok, IfOk, MatchOption, is_some};
 ghost use Rattle.cm_base.specs.Outside.{Rose};
 ghost use Rattle.import_lib.specs.Library.{library_of};
 ghost use Rattle.cmse_build.specs.Constant.{is_entry_name};
+ghost use Rattle.cmse_build.specs.Image.{image_of};
 ghost use Rattle.cmse_build.specs.Reading.{rom_of_image};
-ghost use Rattle.constant_entry.specs.Code.{rom_bytes};
-ghost use Rattle.cmse.specs.Build.{one_veneer, Builds, IsOther, IsRefusalOf, BuildEnds};
+ghost use Rattle.constant_entry.specs.Code.{start_place, used_bytes, gateway_bytes, rom_bytes};
+ghost use Rattle.constant_entry.specs.Meaning.{one_veneer};
+ghost use Rattle.cmse.specs.Build.{one_gate, Builds, IsOther, BuildEnds};
+ghost use Rattle.cmse.specs.Steps.{IsRefusalOf};
 
 use crate::files::{deliver, read_source};
 use crate::status::Status;
@@ -43,7 +46,8 @@ fn library_of(alloc: Global, name: &[u8]) -> Result<Bytes, NoMemory>
 // The image of one entry that gives `n`.
 fn image_of(alloc: Global, name: &[u8], n: u32) -> Result<Bytes, NoMemory>
     requires { is_entry_name name.now ≡ true }
-    ensures { IfOk result (λ bytes. rom_of_image bytes ≡ Ok (rom_bytes n)) }
+    ensures file { IfOk result (λ bytes. bytes ≡ image_of (start_place + 1) (used_bytes n) gateway_bytes (one_gate name.now)) }
+    ensures reads { IfOk result (λ bytes. rom_of_image bytes ≡ Ok (rom_bytes n)) }
 {
     let rom = used(alloc, n)?;
     let region = gateways(alloc)?;
@@ -91,10 +95,12 @@ pub fn build<S: Store>(
     source: &str,
 ) -> Status
     requires { image.now ≢ library.now }
-    ensures ends { BuildEnds (S.files store.old) (S.files store.new)
-        (Rose (S.read_faults store.old) (S.read_faults store.new))
-        (Rose (S.write_faults store.old) (S.write_faults store.new))
-        image.now library.now source.now result }
+    ensures ends { BuildEnds (record {
+        old = S.files store.old;
+        new = S.files store.new;
+        reads = Rose (S.read_faults store.old) (S.read_faults store.new);
+        writes = Rose (S.write_faults store.old) (S.write_faults store.new);
+    }) image.now library.now source.now result }
     ensures telling_stays { is_some (S.files store.new) ≡ is_some (S.files store.old) }
     ensures reads_only_rise { S.read_faults store.old ≤ S.read_faults store.new }
     ensures writes_only_rise { S.write_faults store.old ≤ S.write_faults store.new }

@@ -2,7 +2,7 @@
 ghost use Rattle.std.specs.Prelude.{◌≡◌, ◌≤◌, is_some};
 ghost use Rattle.cm_base.specs.Outside.{Rose};
 ghost use Rattle.cmse.specs.Words.{texts, asked_of};
-ghost use Rattle.cmse.specs.Command.{Ends};
+ghost use Rattle.cmse.specs.Command.{CommandEnds};
 
 use crate::build::build;
 use crate::run::run;
@@ -23,10 +23,19 @@ pub fn cmse_main<S: Store, K: Sink>(
     store: &mut S,
     out: &mut K,
 ) -> Status
-    ensures ends { Ends (asked_of (texts words.now)) (S.files store.old) (S.files store.new)
-        (Rose (S.read_faults store.old) (S.read_faults store.new))
-        (Rose (S.write_faults store.old) (S.write_faults store.new))
-        (K.given out.old) (K.given out.new) (Rose (K.faults out.old) (K.faults out.new)) result }
+    ensures ends { CommandEnds (asked_of (texts words.now)) (record {
+        files = record {
+            old = S.files store.old;
+            new = S.files store.new;
+            reads = Rose (S.read_faults store.old) (S.read_faults store.new);
+            writes = Rose (S.write_faults store.old) (S.write_faults store.new);
+        };
+        output = record {
+            before = K.given out.old;
+            after = K.given out.new;
+            puts = Rose (K.faults out.old) (K.faults out.new);
+        };
+    }) result }
     ensures telling_stays { is_some (S.files store.new) ≡ is_some (S.files store.old) }
     ensures reads_only_rise { S.read_faults store.old ≤ S.read_faults store.new }
     ensures writes_only_rise { S.write_faults store.old ≤ S.write_faults store.new }

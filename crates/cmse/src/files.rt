@@ -1,7 +1,7 @@
 //! Reading the source and writing what is built.
 ghost use Rattle.std.specs.Prelude.{◌≡◌, ◌≢◌, ◌≤◌, ◌⊎◌, Some, IsSome, IfOk, IfErr, is_some, take, length, option_map};
 ghost use Rattle.cm_base.specs.Outside.{held, IsMissing, Rose};
-ghost use Rattle.cmse.specs.Files.{IsReadFault, Delivers};
+ghost use Rattle.cmse.specs.Steps.{IsReadFault, Delivers};
 
 use crate::status::Status;
 use cm_base::{Bytes, Store, StoreFault, Text};

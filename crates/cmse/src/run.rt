@@ -1,12 +1,14 @@
 //! The command `run`: an image and the turns of a script, played on the machine.
 ghost use Rattle.std.specs.Prelude.{◌≡◌, ◌≤◌, length, IfOk};
 ghost use Rattle.cm_base.specs.Outside.{Rose};
-ghost use Rattle.ns_types.specs.Memory.{IsStart};
+ghost use Rattle.ns_types.specs.State.{device_of};
+ghost use Rattle.ns_types.specs.Memory.{IsStart, rom_size};
 ghost use Rattle.ns_turns.specs.Run.{machine_run};
-ghost use Rattle.ns_script.specs.Script.{HasRegions, Gives as GivesScript};
+ghost use Rattle.ns_script.specs.Script.{Gives as GivesScript};
 ghost use Rattle.ns_script.specs.Transcript.{transcript_of};
 ghost use Rattle.cmse_build.specs.Reading.{GivesOrNoMemory};
-ghost use Rattle.cmse.specs.Run.{rom_read, script_read, played, IsPlayed, IsUnfit, PutEnds, RunEnds};
+ghost use Rattle.cmse.specs.Run.{rom_read, script_read, played, RunEnds};
+ghost use Rattle.cmse.specs.Steps.{IsPlayed, IsUnfit, PutEnds};
 
 use crate::files::read_file;
 use crate::status::Status;
@@ -37,7 +39,7 @@ enum Unplayed {
 fn rom_read(alloc: Global, bytes: &[u8]) -> Result<Image, ImageFault>
     requires { length bytes.now ≤ 8388609 }
     ensures value { GivesOrNoMemory (λ image. image.rom) result (rom_read bytes.now) }
-    ensures whole { IfOk result (λ image. length image.rom ≡ 4194304) }
+    ensures whole { IfOk result (λ image. length image.rom ≡ rom_size) }
 {
     if bytes.len() > 8_388_608 {
         return Err(ImageFault::BadImage(8_388_608));
@@ -49,7 +51,7 @@ fn rom_read(alloc: Global, bytes: &[u8]) -> Result<Image, ImageFault>
 fn script_read(alloc: Global, bytes: &[u8]) -> Result<(Start, List<Turn>), ScriptFault>
     requires { length bytes.now ≤ 16777217 }
     ensures value { GivesScript result (script_read bytes.now) }
-    ensures whole { IfOk result (λ x. HasRegions x.0) }
+    ensures whole { IfOk result (λ x. IsStart x.0) }
 {
     if bytes.len() > 16_777_216 {
         return Err(ScriptFault::BadLine(0));
@@ -65,9 +67,9 @@ fn transcript(
     turns: &[Turn],
     steps: u32,
 ) -> Result<Bytes, NoMemory>
-    requires rom { length image.now.device ≡ 4194304 }
+    requires rom { length image.now.rom ≡ rom_size }
     requires start { IsStart start.now }
-    ensures { IfOk result (λ text. text ≡ transcript_of (machine_run image.now.device start.now turns.now steps)) }
+    ensures { IfOk result (λ text. text ≡ transcript_of (machine_run (device_of image.now.rom) start.now turns.now steps)) }
 {
     let mut machine = Machine::new(alloc, image, start)?;
     let events = ns_turns::run(alloc, &mut machine, turns, u64::from(steps))?;
@@ -109,8 +111,11 @@ fn unfit(alloc: Global, file: &str, at: u32) -> Status
 
 // Puts the transcript out.
 fn put<K: Sink>(alloc: Global, out: &mut K, text: &[u8]) -> Status
-    ensures ends { PutEnds (K.given out.old) (K.given out.new)
-        (Rose (K.faults out.old) (K.faults out.new)) text.now result }
+    ensures ends { PutEnds (record {
+        before = K.given out.old;
+        after = K.given out.new;
+        puts = Rose (K.faults out.old) (K.faults out.new);
+    }) text.now result }
     ensures puts_only_rise { K.faults out.old ≤ K.faults out.new }
 {
     // The name is copied first: no want of memory comes behind a failed put.
@@ -133,9 +138,19 @@ pub fn run<S: Store, K: Sink>(
     image: &str,
     script: &str,
 ) -> Status
-    ensures ends { RunEnds (S.files store.old) (Rose (S.read_faults store.old) (S.read_faults store.new))
-        (K.given out.old) (K.given out.new) (Rose (K.faults out.old) (K.faults out.new))
-        steps image.now script.now result }
+    ensures ends { RunEnds (record {
+        files = record {
+            old = S.files store.old;
+            new = S.files store.new;
+            reads = Rose (S.read_faults store.old) (S.read_faults store.new);
+            writes = Rose (S.write_faults store.old) (S.write_faults store.new);
+        };
+        output = record {
+            before = K.given out.old;
+            after = K.given out.new;
+            puts = Rose (K.faults out.old) (K.faults out.new);
+        };
+    }) steps image.now script.now result }
     ensures files_stay { S.files store.new ≡ S.files store.old }
     ensures reads_only_rise { S.read_faults store.old ≤ S.read_faults store.new }
     ensures writes_stay { S.write_faults store.new ≡ S.write_faults store.old }

@@ -5,9 +5,12 @@ use Rattle.std.proofs.lemmas.Bool.{false≢true}
 use Rattle.std.proofs.lemmas.Bool.Decides.{nat_tests}
 use Rattle.std.proofs.lemmas.List.Elements.{All-nil, All-cons}
 use Rattle.std.proofs.lemmas.List.Sums.{AllPass-from_list_all}
+use Rattle.cm_base.specs.declared.regions.TheConstants.{NSC}
 use Rattle.ns_types.specs.declared.event.Veneer.{Veneer}
-use Rattle.import_lib.specs.Elf.{symbol_of, string_table}
-use Rattle.import_lib.specs.Library.{symbol_table, CanWrite, library_size}
+use Rattle.elf32.specs.Structures.{symbol_bytes}
+use Rattle.elf32.specs.Tables.{names_of, symbol_table, string_table}
+use Rattle.elf32.proofs.TableLaws.{aligned_below}
+use Rattle.import_lib.specs.Library.{CanWrite, library_size}
 use Rattle.cmse_build.specs.declared.image.Gate.{Gate}
 use Rattle.cmse_build.specs.Image as image
 use Rattle.cmse_build.specs.Constant.{is_c_name, is_entry_name, is_kept_name, is_word_byte}
@@ -34,11 +37,11 @@ no_zero name e c =
     false≢true (sym (ap is_word_byte c.2) ∙ all)
 
 abbrev pub one_veneer : List ℕ → Veneer
-one_veneer name = record { name = name; address = 272625664 }
+one_veneer name = record { name = name; address = NSC.from }
 
 library_fits : (name : List ℕ) → length name ≤ 31 → library_size (one_veneer name ∷ []) < 2 ^ 32
-unfolding symbol_table symbol_of
-library_fits name short = omega (arith, length-append (name ++ 0 ∷ []) [], length-append name (0 ∷ []))
+unfolding symbol_table symbol_bytes
+library_fits name short = omega (arith, aligned_below, length-append (name ++ 0 ∷ []) [], length-append name (0 ∷ []))
 
 pub library_ready : (name : List ℕ) → is_entry_name name ≡ true → CanWrite (one_veneer name ∷ [])
 library_ready name e = record {
@@ -50,17 +53,17 @@ library_ready name e = record {
 }
 
 abbrev pub one_gate : List ℕ → ℕ → Gate
-one_gate name code = record { name = name; address = 272625664; code = code }
+one_gate name code = record { name = name; address = NSC.from; code = code }
 
 two_names : (a b : List ℕ) → length ((a ++ 0 ∷ []) ++ ((b ++ 0 ∷ []) ++ [])) ≡ length a + length b + 2
 two_names a b =
     omega (arith, length-append (a ++ 0 ∷ []) ((b ++ 0 ∷ []) ++ []), length-append a (0 ∷ []), length-append (b ++ 0 ∷ []) [], length-append b (0 ∷ []))
 
-strings_size : (name : List ℕ) (code : ℕ) → length (string_table (image.names_of (one_gate name code ∷ []))) ≡ suc (length name + length (codes "__acle_se_" ++ name) + 2)
+strings_size : (name : List ℕ) (code : ℕ) → length (string_table (names_of (image.symbols_of (one_gate name code ∷ [])))) ≡ suc (length name + length (codes "__acle_se_" ++ name) + 2)
 strings_size name code = ap (λ n. suc n) (two_names name (codes "__acle_se_" ++ name))
 
-image_fits : (name rom gateways : List ℕ) (code : ℕ) → length name ≤ 31 → length rom + length gateways ≤ 8000000 → length rom + length gateways + length (image.symbol_table (one_gate name code ∷ [])) + length (string_table (image.names_of (one_gate name code ∷ []))) + 500 < 2 ^ 32
-unfolding image.symbol_table symbol_of
+image_fits : (name rom gateways : List ℕ) (code : ℕ) → length name ≤ 31 → length rom + length gateways ≤ 8000000 → length rom + length gateways + length (symbol_table (image.symbols_of (one_gate name code ∷ []))) + length (string_table (names_of (image.symbols_of (one_gate name code ∷ [])))) + 500 < 2 ^ 32
+unfolding symbol_table symbol_bytes
 image_fits name rom gateways code short few =
     omega (arith, strings_size name code, length-append (codes "__acle_se_") name)
 

@@ -1,56 +1,108 @@
--- The image: an ELF file for Arm that holds the Secure ROM (System V ABI, Program Header; ELF for the Arm Architecture).
-use Rattle.std.specs.Prelude.{ℕ, ◌+◌, ◌^◌, ◌<◌, List, [], ◌∷◌, ◌++◌, length, map, flat_map, replicate, codes, All}
-use Rattle.elf32.specs.Fields.{le32}
-use Rattle.import_lib.specs.Elf.{header_of, symbol_of, sections_of, string_table, section_names, padding}
+-- The image: an executable file that holds the Secure ROM (System V ABI, Program Header; ELF for the Arm Architecture).
+use Rattle.std.specs.Prelude.{ℕ, ◌+◌, ◌*◌, ◌^◌, ◌<◌, ◌≤◌, List, [], ◌∷◌, ◌++◌, length, flat_map, codes, All}
+use Rattle.cm_base.specs.declared.regions.TheConstants.{SECURE_ROM, NSC}
+use Rattle.elf32.specs.declared.structures.FileHeader.{FileHeader}
+use Rattle.elf32.specs.declared.structures.ProgramHeader.{ProgramHeader}
+use Rattle.elf32.specs.declared.structures.Symbol.{Symbol}
+use Rattle.elf32.specs.declared.tables.Tables.{Tables}
+use Rattle.elf32.specs.Constants.{ET_EXEC, HEADER_SIZE, PROGRAM_HEADER_SIZE, PT_LOAD, PF_R, PF_X}
+use Rattle.elf32.specs.Structures.{header_bytes, program_header_bytes, arm_header, absolute_function}
+use Rattle.elf32.specs.Tables.{names_of, symbol_table, string_table, section_names, table_sections_bytes, aligned, padded}
 use Rattle.cmse_build.specs.declared.image.Gate.{Gate}
+use Rattle.cmse_build.specs.declared.image.Layout.{Layout}
 
 -- the symbols of an entry: its name at its veneer, and its twin at its code (ECM0359818, Secure gateway veneers)
-abbrev pub symbols_of_gate : Gate → List (List ℕ × ℕ)
-symbols_of_gate g = (g.name, g.address + 1) ∷ (codes "__acle_se_" ++ g.name, g.code + 1) ∷ []
+abbrev pub symbols_of_gate : Gate → List (List ℕ × Symbol)
+symbols_of_gate g =
+    (g.name, absolute_function (g.address + 1) 0) ∷ (codes "__acle_se_" ++ g.name, absolute_function (g.code + 1) 0) ∷ []
 
--- the names and values of all symbols but the null symbol
-abbrev pub named_values : List Gate → List (List ℕ × ℕ)
-named_values gates = flat_map symbols_of_gate gates
+abbrev pub symbols_of : List Gate → List (List ℕ × Symbol)
+symbols_of gates = flat_map symbols_of_gate gates
 
-abbrev pub names_of : List Gate → List (List ℕ)
-names_of gates = map (λ s. s.0) (named_values gates)
+-- the program header of bytes that stand at this offset: they are loaded to an address, to be read and executed
+abbrev pub segment : ℕ → ℕ → ℕ → ProgramHeader
+segment at address size = record {
+  p_type = PT_LOAD;
+  p_offset = at;
+  p_vaddr = address;
+  p_paddr = address;
+  p_filesz = size;
+  p_memsz = size;
+  p_flags = PF_R + PF_X;
+  p_align = 4;
+}
 
--- symbols whose names begin at this offset of the string table and follow one another
-abbrev pub symbols_from : ℕ → List (List ℕ × ℕ) → List ℕ
-symbols_from at [] = []
-symbols_from at (s ∷ ss) =
-    symbol_of (record { name = at; value = s.1; size = 0 }) ++ symbols_from (at + (length s.0 + 1)) ss
+-- where the bytes of the first segment stand: behind the headers
+abbrev pub rom_at : ℕ
+rom_at = HEADER_SIZE + 2 * PROGRAM_HEADER_SIZE
 
-unfoldable pub symbol_table : List Gate → List ℕ
-symbol_table gates = replicate 16 0 ++ symbols_from 1 (named_values gates)
+-- Where the parts behind the first segment stand, by the sizes of both segments, of the symbols and of their names. Each
+-- begins at the first multiple of 4 behind the part before it.
+unfoldable pub layout_of : ℕ → ℕ → ℕ → ℕ → Layout
+layout_of rom gateways symbols strings =
+    let gateways_at = aligned (rom_at + rom) in
+    let symbols_at = aligned (gateways_at + gateways) in
+    let strings_at = aligned (symbols_at + symbols) in
+    let names_at = aligned (strings_at + strings) in
+    record {
+      gateways_at = gateways_at;
+      symbols_at = symbols_at;
+      strings_at = strings_at;
+      names_at = names_at;
+      sections_at = aligned (names_at + length section_names);
+    }
 
--- A program header, 32 bytes: p_type 1, p_offset, equal p_vaddr and p_paddr, equal p_filesz and p_memsz, p_flags 5
--- (read and execute), p_align 4.
-abbrev pub segment_of : ℕ → ℕ → ℕ → List ℕ
-segment_of at address size = flat_map le32 (1 ∷ at ∷ address ∷ address ∷ size ∷ size ∷ 5 ∷ 4 ∷ [])
+-- the header of an executable file with two program headers and four sections, the last of which has their names
+abbrev pub image_header : ℕ → Layout → FileHeader
+image_header entry l = record arm_header {
+  e_type = ET_EXEC;
+  e_entry = entry;
+  e_phoff = HEADER_SIZE;
+  e_shoff = l.sections_at;
+  e_phentsize = PROGRAM_HEADER_SIZE;
+  e_phnum = 2;
+  e_shnum = 4;
+  e_shstrndx = 3;
+}
 
--- The file of a Secure ROM up to its last used byte, of all gateways and of the entries: the file header, the two
--- program headers, their bytes from 116 on, and then the symbols, their names, the names of the sections and the section
--- headers, each begun at a multiple of 4.
+-- where the tables of symbols of these sizes stand
+abbrev pub tables_of : Layout → ℕ → ℕ → Tables
+tables_of l symbols strings = record {
+  symbols_at = l.symbols_at;
+  symbols_size = symbols;
+  strings_at = l.strings_at;
+  strings_size = strings;
+  names_at = l.names_at;
+}
+
+-- The file of a Secure ROM up to its last used byte, of all gateways and of the entries: the headers, the bytes of both
+-- segments, the symbols, their names, the names of the sections and the section headers.
 unfoldable pub image_of : ℕ → List ℕ → List ℕ → List Gate → List ℕ
 image_of entry rom gateways gates =
-    let gateways_at = 116 + length rom in
-    let bytes_end = gateways_at + length gateways in
-    let fill = padding bytes_end in
-    let symbols_at = bytes_end + fill in
-    let strings_at = symbols_at + length (symbol_table gates) in
-    let strings_end = strings_at + length (string_table (names_of gates)) in
-    let fill2 = padding strings_end in
-    let names_at = strings_end + fill2 in
-    let fill3 = padding (names_at + 27) in
-    header_of (record { kind = 2; entry = entry; programs_at = 52; sections_at = names_at + 27 + fill3; program_size = 32; programs = 2 })
-    ++ (segment_of 116 268435456 (length rom) ++ (segment_of gateways_at 272625664 (length gateways)
-    ++ (rom ++ (gateways ++ (replicate fill 0 ++ (symbol_table gates ++ (string_table (names_of gates)
-    ++ (replicate fill2 0 ++ (section_names ++ (replicate fill3 0
-    ++ sections_of (record { symbols_at = symbols_at; symbols_size = length (symbol_table gates); strings_at = strings_at; strings_size = length (string_table (names_of gates)); names_at = names_at })))))))))))
+    let symbols = symbol_table (symbols_of gates) in
+    let strings = string_table (names_of (symbols_of gates)) in
+    let l = layout_of (length rom) (length gateways) (length symbols) (length strings) in
+    header_bytes (image_header entry l)
+    ++ (program_header_bytes (segment rom_at SECURE_ROM.from (length rom))
+    ++ (program_header_bytes (segment l.gateways_at NSC.from (length gateways))
+    ++ (padded rom_at rom
+    ++ (padded l.gateways_at gateways
+    ++ (padded l.symbols_at symbols
+    ++ (padded l.strings_at strings
+    ++ (padded l.names_at section_names
+    ++ table_sections_bytes (tables_of l (length symbols) (length strings)))))))))
 
 -- What can be written: even addresses and places, and a file below 2 ^ 32 bytes.
 pub record CanWrite (rom gateways : List ℕ) (gates : List Gate) : Type 0 where
   pub addresses : All (λ g. g.address + 1 < 2 ^ 32) gates
   pub codes : All (λ g. g.code + 1 < 2 ^ 32) gates
-  pub fits : length rom + length gateways + length (symbol_table gates) + length (string_table (names_of gates)) + 500 < 2 ^ 32
+  pub fits : length rom + length gateways + length (symbol_table (symbols_of gates)) + length (string_table (names_of (symbols_of gates))) + 500 < 2 ^ 32
+
+-- each part of these sizes ends where the next one begins, or before, and all offsets are below 2 ^ 32
+pub record StandApart (l : Layout) (rom gateways symbols strings : ℕ) : Type 0 where
+  pub rom_ends : rom_at + rom ≤ l.gateways_at
+  pub gateways_end : l.gateways_at + gateways ≤ l.symbols_at
+  pub symbols_end : l.symbols_at + symbols ≤ l.strings_at
+  pub strings_end : l.strings_at + strings ≤ l.names_at
+  pub names_end : l.names_at + length section_names ≤ l.sections_at
+  pub fits : l.sections_at < 2 ^ 32

@@ -1,6 +1,8 @@
 -- What the bytes of an image give: the Secure ROM, or the offset of the first fault (System V ABI, Object Files).
 use Rattle.std.specs.Prelude.{◌≡◌, ◌≤◌, ℕ, ◌+◌, ◌-◌, ◌*◌, ◌/◌, ◌%◌, ◌==◌, ◌&&◌, Bool, true, false, not, nat_lt, nat_le, zero, suc, List, [], ◌∷◌, ◌++◌, length, replicate, take, drop, slice_get, Option, Some, None, unwrap_or, Result, Ok, Err, if◌then◌else◌}
 use Rattle.std.specs.List.{list_any, fold}
+use Rattle.cm_base.specs.declared.regions.TheConstants.{SECURE_ROM, NSC}
+use Rattle.elf32.specs.Constants.{ELF_MAGIC, ELFCLASS32, ELFDATA2LSB, EV_CURRENT, ET_EXEC, EM_ARM, EF_ARM_EABI_VER5, HEADER_SIZE, PROGRAM_HEADER_SIZE, PT_LOAD}
 use Rattle.elf32.specs.Fields.{field16, field32}
 use Rattle.cmse_build.specs.declared.load.Segment.{Segment}
 use Rattle.cmse_build.specs.declared.load.ImageFault.{ImageFault}
@@ -60,39 +62,41 @@ field_at n = fold (λ best at. if nat_le at n then at else best) 0 header_fields
 -- the magic, the class, the data and the version
 unfoldable pub identification_of : List ℕ → Result (Unit {0}) ℕ
 identification_of bytes = do
-  whole ← test (nat_le 52 (length bytes)) (field_at (length bytes))
-  magic ← test (is (field32 bytes 0) 1179403647) 0
-  class ← test (is (slice_get bytes 4) 1) 4
-  order ← test (is (slice_get bytes 5) 1) 5
-  test (is (slice_get bytes 6) 1) 6
+  whole ← test (nat_le HEADER_SIZE (length bytes)) (field_at (length bytes))
+  magic ← test (is (field32 bytes 0) ELF_MAGIC) 0
+  class ← test (is (slice_get bytes 4) ELFCLASS32) 4
+  order ← test (is (slice_get bytes 5) ELFDATA2LSB) 5
+  test (is (slice_get bytes 6) EV_CURRENT) 6
 
--- e_type 2, e_machine 40, e_version 1, the top byte of e_flags 5, e_phentsize 32, and e_phnum from 1 to 16
+-- e_type, e_machine, e_version, the top byte of e_flags, which tells the version of the ABI, e_phentsize, and e_phnum from
+-- 1 to 16
 unfoldable pub header_of : List ℕ → Result (Unit {0}) ℕ
 header_of bytes = do
-  kind ← test (is (field16 bytes 16) 2) 16
-  machine ← test (is (field16 bytes 18) 40) 18
-  version ← test (is (field32 bytes 20) 1) 20
-  flags ← test (is (slice_get bytes 39) 5) 36
-  size ← test (is (field16 bytes 42) 32) 42
+  kind ← test (is (field16 bytes 16) ET_EXEC) 16
+  machine ← test (is (field16 bytes 18) EM_ARM) 18
+  version ← test (is (field32 bytes 20) EV_CURRENT) 20
+  flags ← test (is (slice_get bytes 39) (EF_ARM_EABI_VER5 / 0x1000000)) 36
+  size ← test (is (field16 bytes 42) PROGRAM_HEADER_SIZE) 42
   test (is_count (field16 bytes 44)) 44
 
--- two segments have a byte in common
+-- two segments have a byte in common: an empty one has none
 abbrev pub meets : Segment → Segment → Bool
-meets s t = nat_lt s.at (t.at + t.size) && nat_lt t.at (s.at + s.size)
+meets s t =
+    (nat_lt s.at (t.at + t.size) && nat_lt t.at (s.at + s.size)) && (nat_lt 0 s.size && nat_lt 0 t.size)
 
--- whether a program header that is whole has bytes to load: p_type 1, and p_filesz not 0
+-- whether a program header that is whole has bytes to load: PT_LOAD, and a p_filesz that isn't 0
 abbrev pub is_loaded : List ℕ → ℕ → Bool
-is_loaded bytes at = (word bytes at == 1) && not (word bytes (at + 16) == 0)
+is_loaded bytes at = (word bytes at == PT_LOAD) && not (word bytes (at + 16) == 0)
 
 -- the segment of a program header: p_paddr, p_memsz, p_offset, p_filesz
 abbrev pub segment_of : List ℕ → ℕ → Segment
 segment_of bytes at =
     record { at = word bytes (at + 12); size = word bytes (at + 20); from = word bytes (at + 4); filled = word bytes (at + 16) }
 
--- whether a segment lies in the Secure ROM and meets no earlier one
+-- whether a segment lies in the Secure ROM and its Non-secure callable region, and meets no earlier one
 abbrev pub has_place : Segment → List Segment → Bool
 has_place s earlier =
-    nat_le 268435456 s.at && (nat_le (s.at + s.size) 272629760 && not (list_any (meets s) earlier))
+    nat_le SECURE_ROM.from s.at && (nat_le (s.at + s.size) NSC.to && not (list_any (meets s) earlier))
 
 -- a segment whose bytes lie in the file, that lies in the Secure ROM and meets no earlier one, and that has room for its bytes
 unfoldable pub segment_test : List ℕ → ℕ → List Segment → Segment → Result (Unit {0}) ℕ
@@ -104,14 +108,14 @@ segment_test bytes at earlier s = do
 -- what the reading of a ROM rests on: the bytes of the segment lie in the file, and the segment in the Secure ROM
 pub record Fits (size : ℕ) (s : Segment) : Type 0 where
   pub in_file : s.from + s.filled ≤ size
-  pub low : 268435456 ≤ s.at
-  pub high : s.at + s.size ≤ 272629760
+  pub low : SECURE_ROM.from ≤ s.at
+  pub high : s.at + s.size ≤ NSC.to
   pub room : s.filled ≤ s.size
 
 -- the earlier segments with that of the program header at this offset
 unfoldable pub with_segment : List ℕ → ℕ → List Segment → Result (List Segment) ℕ
 with_segment bytes at earlier =
-    test (nat_le (at + 32) (length bytes)) (at + 4 * ((length bytes - at) / 4)) >>= λ _.
+    test (nat_le (at + PROGRAM_HEADER_SIZE) (length bytes)) (at + 4 * ((length bytes - at) / 4)) >>= λ _.
     (if is_loaded bytes at
     then (segment_test bytes at earlier (segment_of bytes at) >>= λ _. Ok (earlier ++ segment_of bytes at ∷ []))
     else Ok earlier)
@@ -119,7 +123,7 @@ with_segment bytes at earlier =
 -- the earlier segments with those of n program headers from this offset on
 abbrev pub with_segments : List ℕ → ℕ → ℕ → List Segment → Result (List Segment) ℕ
 with_segments bytes zero at earlier = Ok earlier
-with_segments bytes (suc n) at earlier = with_segment bytes at earlier >>= with_segments bytes n (at + 32)
+with_segments bytes (suc n) at earlier = with_segment bytes at earlier >>= with_segments bytes n (at + PROGRAM_HEADER_SIZE)
 
 -- these bytes put over a list at a place
 abbrev pub with_bytes : List ℕ → ℕ → List ℕ → List ℕ
@@ -127,11 +131,19 @@ with_bytes rom at bytes = take at rom ++ (bytes ++ drop (at + length bytes) rom)
 
 -- the bytes of a segment put over a ROM
 abbrev pub loaded : List ℕ → List ℕ → Segment → List ℕ
-loaded bytes rom s = with_bytes rom (s.at - 268435456) (take s.filled (drop s.from bytes))
+loaded bytes rom s = with_bytes rom (s.at - SECURE_ROM.from) (take s.filled (drop s.from bytes))
 
--- the size of the Secure ROM and its Non-secure callable part; proofs don't compute lists of this length
+-- the size of the Secure ROM without the Non-secure callable region: the most bytes that a ROM uses of it
+abbrev pub rom_used_most : ℕ
+rom_used_most = NSC.from - SECURE_ROM.from
+
+-- the size of the Non-secure callable region
+abbrev pub gateways_size : ℕ
+gateways_size = NSC.to - NSC.from
+
+-- the size of both; proofs don't compute lists of this length
 unfoldable pub rom_size : ℕ
-rom_size = 4194304
+rom_size = NSC.to - SECURE_ROM.from
 
 -- n zero bytes
 unfoldable pub zeros : ℕ → List ℕ

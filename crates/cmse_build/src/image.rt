@@ -1,13 +1,16 @@
-//! The image of the Secure ROM: an ELF file for Arm.
-ghost use Rattle.std.specs.Prelude.{◌≡◌, ◌+◌, ◌-◌, ◌<◌, ◌≤◌, ◌^◌, [], ◌∷◌, ◌++◌, true, Ok, length, replicate, All, IfOk, OnOk};
-ghost use Rattle.import_lib.specs.Elf.{string_table, header_of, section_names, sections_of};
-ghost use Rattle.cmse_build.specs.Image.{names_of, symbol_table, segment_of, image_of, CanWrite};
-ghost use Rattle.cmse_build.specs.Reading.{is_entry, word, zeros, rom_of_image};
+//! The image of the Secure ROM: an executable ELF file for Arm.
+ghost use Rattle.std.specs.Prelude.{◌≡◌, ◌+◌, ◌-◌, ◌<◌, ◌≤◌, ◌^◌, ◌++◌, true, Ok, length, codes, All, IfOk, OnOk};
+ghost use Rattle.cm_base.specs.declared.regions.TheConstants.{SECURE_ROM, NSC};
+ghost use Rattle.elf32.specs.Structures.{header_bytes, program_header_bytes};
+ghost use Rattle.elf32.specs.Tables.{names_of, symbol_table, string_table, section_names, padded};
+ghost use Rattle.cmse_build.specs.Image.{symbols_of, segment, rom_at, layout_of, image_header, image_of, CanWrite, StandApart};
+ghost use Rattle.cmse_build.specs.Reading.{is_entry, word, zeros, rom_used_most, gateways_size, rom_of_image};
 
-use cm_base::{Bytes, NoMemory, Text};
-use import_lib::{
-    Header, SECTION_NAMES, Symbol, Tables, padding, put_header, put_sections, put_symbol,
-    put_words, put_zeros,
+use cm_base::{Bytes, NSC, NoMemory, SECURE_ROM, Text};
+use elf32::{
+    ARM_HEADER, ET_EXEC, FileHeader, HEADER_SIZE, PF_R, PF_X, PROGRAM_HEADER_SIZE, PT_LOAD, ProgramHeader, SECTION_NAMES,
+    SECTION_NAMES_SIZE, SymbolTable, Tables, absolute_function, aligned, put_header, put_padded, put_program_header,
+    put_table_sections,
 };
 use std::alloc::Global;
 
@@ -19,119 +22,139 @@ pub struct Gate {
     pub code: u32,
 }
 
+/// Where the parts of the file behind the first segment stand.
+#[derive(Clone, Copy)]
+struct Layout {
+    gateways_at: u32,
+    symbols_at: u32,
+    strings_at: u32,
+    names_at: u32,
+    sections_at: u32,
+}
+
 /// What the name of an entry's code begins with.
 const TWIN: &[u8] = b"__acle_se_";
 
-/// The addresses of the Secure ROM and of its Non-secure callable part.
-const ROM_ADDRESS: u32 = 0x1000_0000;
+/// Where the bytes of the first segment stand: behind the headers.
+const ROM_AT: u32 = HEADER_SIZE as u32 + 2 * PROGRAM_HEADER_SIZE as u32;
 
-const GATEWAYS_ADDRESS: u32 = 0x103f_f000;
-
-/// Appends a name of two parts and a zero byte.
-fn put_name(to: &mut Bytes, front: &[u8], name: &Text) -> Result<(), NoMemory>
-    ensures { OnOk result (to.new ≡ to.old ++ ((front.now ++ name.now) ++ 0 ∷ [])) }
+/// The name of an entry's code.
+fn twin_of(alloc: Global, name: &Text) -> Result<Text, NoMemory>
+    ensures { IfOk result (λ twin. twin ≡ codes "__acle_se_" ++ name.now) }
 {
-    to.extend_from_slice(front)?;
-    to.extend_from_slice(name.as_slice())?;
-    to.push(0)
+    let mut twin = Text::from_slice(alloc, TWIN)?;
+    twin.extend_from_slice(name.as_slice())?;
+    Ok(twin)
 }
 
-/// The string table.
-fn strings_of(alloc: Global, gates: &[Gate]) -> Result<Bytes, NoMemory>
-    ensures { IfOk result (λ bytes. bytes ≡ string_table (names_of gates.now)) }
-{
-    let mut strings = Bytes::new(alloc);
-    strings.push(0)?;
-    for gate in gates {
-        put_name(&mut strings, b"", &gate.name)?;
-        put_name(&mut strings, TWIN, &gate.name)?;
-    }
-    Ok(strings)
-}
-
-/// The symbol table.
-#[tactic(auto, unfolding(crate::specs::Image::symbol_table))]
-fn symbols_of(alloc: Global, gates: &[Gate]) -> Result<Bytes, NoMemory>
+/// The symbols of the entries and their names.
+#[tactic(auto, unfolding(elf32::specs::Tables::symbol_table))]
+fn table_of(alloc: Global, gates: &[Gate]) -> Result<SymbolTable, NoMemory>
     requires addresses { All (λ g. g.address + 1 < 2 ^ 32) gates.now }
     requires codes { All (λ g. g.code + 1 < 2 ^ 32) gates.now }
-    requires fits { length (string_table (names_of gates.now)) < 2 ^ 32 }
-    ensures { IfOk result (λ bytes. bytes ≡ symbol_table gates.now) }
+    requires fits { length (string_table (names_of (symbols_of gates.now))) < 2 ^ 32 }
+    ensures symbols { IfOk result (λ table. table.symbols ≡ symbol_table (symbols_of gates.now)) }
+    ensures strings { IfOk result (λ table. table.strings ≡ string_table (names_of (symbols_of gates.now))) }
 {
-    let mut symbols = Bytes::new(alloc);
-    put_zeros(&mut symbols, 16)?;
-    let mut name: u32 = 1;
+    let mut table = SymbolTable::new(alloc)?;
     for gate in gates {
-        let len = gate.name.len() as u32 + 1;
-        let veneer = Symbol {
-            name,
-            value: gate.address + 1,
-            size: 0,
-        };
-        put_symbol(&mut symbols, &veneer)?;
-        let twin = Symbol {
-            name: name + len,
-            value: gate.code + 1,
-            size: 0,
-        };
-        put_symbol(&mut symbols, &twin)?;
-        name += len + len + 10;
+        let veneer = absolute_function(gate.address + 1, 0);
+        table.push(gate.name.as_slice(), &veneer)?;
+        let twin = twin_of(alloc, &gate.name)?;
+        let code = absolute_function(gate.code + 1, 0);
+        table.push(twin.as_slice(), &code)?;
     }
-    Ok(symbols)
+    Ok(table)
 }
 
-/// A program header.
-fn put_segment(to: &mut Bytes, at: u32, address: u32, size: u32) -> Result<(), NoMemory>
-    ensures { OnOk result (to.new ≡ to.old ++ segment_of at address size) }
+/// Where the parts of these sizes stand.
+#[tactic(auto, unfolding(crate::specs::Image::layout_of), using(elf32::proofs::TableLaws::aligned_below))]
+fn layout_of(rom: u32, gateways: u32, symbols: u32, strings: u32) -> Layout
+    requires { rom + gateways + symbols + strings + 500 < 2 ^ 32 }
+    ensures value { result ≡ layout_of rom gateways symbols strings }
+    ensures apart { StandApart result rom gateways symbols strings }
 {
-    put_words(to, &[1, at, address, address, size, size, 5, 4])
+    let gateways_at = aligned(ROM_AT + rom);
+    let symbols_at = aligned(gateways_at + gateways);
+    let strings_at = aligned(symbols_at + symbols);
+    let names_at = aligned(strings_at + strings);
+    Layout {
+        gateways_at,
+        symbols_at,
+        strings_at,
+        names_at,
+        sections_at: aligned(names_at + SECTION_NAMES_SIZE),
+    }
 }
 
-/// The parts of the file up to the symbols.
-fn put_front(
+/// The program header of bytes that are loaded to an address.
+fn segment(p_offset: u32, address: u32, size: u32) -> ProgramHeader
+    ensures { result ≡ segment p_offset address size }
+{
+    ProgramHeader {
+        p_type: PT_LOAD,
+        p_offset,
+        p_vaddr: address,
+        p_paddr: address,
+        p_filesz: size,
+        p_memsz: size,
+        p_flags: PF_R + PF_X,
+        p_align: 4,
+    }
+}
+
+/// The headers of the file and of both segments.
+fn put_headers(
     to: &mut Bytes,
-    header: &Header,
+    entry: u32,
+    rom_size: u32,
+    gateways_size: u32,
+    layout: &Layout,
+) -> Result<(), NoMemory>
+    ensures { OnOk result (to.new ≡ to.old ++ (header_bytes (image_header entry layout.now)
+        ++ (program_header_bytes (segment rom_at SECURE_ROM.from rom_size)
+        ++ program_header_bytes (segment layout.now.gateways_at NSC.from gateways_size)))) }
+{
+    let header = FileHeader {
+        e_type: ET_EXEC,
+        e_entry: entry,
+        e_phoff: HEADER_SIZE as u32,
+        e_shoff: layout.sections_at,
+        e_phentsize: PROGRAM_HEADER_SIZE,
+        e_phnum: 2,
+        e_shnum: 4,
+        e_shstrndx: 3,
+        ..ARM_HEADER
+    };
+    put_header(to, &header)?;
+    put_program_header(to, &segment(ROM_AT, SECURE_ROM.from, rom_size))?;
+    put_program_header(to, &segment(layout.gateways_at, NSC.from, gateways_size))
+}
+
+/// The parts of the file behind the headers, but for the section headers.
+fn put_parts(
+    to: &mut Bytes,
     rom_used: &[u8],
     gateways: &[u8],
-    n: usize,
+    table: &SymbolTable,
+    layout: &Layout,
 ) -> Result<(), NoMemory>
-    requires { 116 + length rom_used.now + length gateways.now < 2 ^ 32 }
-    ensures { OnOk result (to.new ≡ to.old ++ (header_of header.now
-        ++ (segment_of 116 268435456 (length rom_used.now)
-        ++ (segment_of (116 + length rom_used.now) 272625664 (length gateways.now)
-        ++ (rom_used.now ++ (gateways.now ++ replicate n 0)))))) }
+    requires { StandApart layout.now (length rom_used.now) (length gateways.now) (length table.now.symbols) (length table.now.strings) }
+    ensures { OnOk result (to.new ≡ to.old ++ (padded rom_at rom_used.now
+        ++ (padded layout.now.gateways_at gateways.now
+        ++ (padded layout.now.symbols_at table.now.symbols
+        ++ (padded layout.now.strings_at table.now.strings
+        ++ padded layout.now.names_at section_names))))) }
 {
-    let rom_size = rom_used.len() as u32;
-    let gateways_size = gateways.len() as u32;
-    put_header(to, header)?;
-    put_segment(to, 116, ROM_ADDRESS, rom_size)?;
-    put_segment(to, 116 + rom_size, GATEWAYS_ADDRESS, gateways_size)?;
-    to.extend_from_slice(rom_used)?;
-    to.extend_from_slice(gateways)?;
-    put_zeros(to, n)
+    put_padded(to, ROM_AT, rom_used)?;
+    put_padded(to, layout.gateways_at, gateways)?;
+    put_padded(to, layout.symbols_at, table.symbols.as_slice())?;
+    put_padded(to, layout.strings_at, table.strings.as_slice())?;
+    put_padded(to, layout.names_at, SECTION_NAMES)
 }
 
-/// The parts of the file from the symbols on.
-fn put_tables(
-    to: &mut Bytes,
-    symbols: Bytes,
-    strings: Bytes,
-    m: usize,
-    n: usize,
-    tables: &Tables,
-) -> Result<(), NoMemory>
-    ensures { OnOk result (to.new ≡ to.old ++ (symbols ++ (strings ++ (replicate m 0
-        ++ (section_names ++ (replicate n 0 ++ sections_of tables.now)))))) }
-{
-    to.append(symbols)?;
-    to.append(strings)?;
-    put_zeros(to, m)?;
-    to.extend_from_slice(SECTION_NAMES)?;
-    put_zeros(to, n)?;
-    put_sections(to, tables)
-}
-
-/// The image of a Secure ROM: the bytes from 10000000 up to the last that is used, all of the Non-secure callable part,
-/// and the entries in ascending order of address. `entry` is the reset address with bit 0 set.
+/// The image of a Secure ROM: its bytes up to the last that is used, all of the Non-secure callable region, and the
+/// entries in ascending order of address. `entry` is the reset address with bit 0 set.
 pub fn write_image(
     alloc: Global,
     entry: u32,
@@ -141,38 +164,26 @@ pub fn write_image(
 ) -> Result<Bytes, NoMemory>
     requires { CanWrite rom_used.now gateways.now gates.now }
     ensures value { IfOk result (λ file. file ≡ image_of entry rom_used.now gateways.now gates.now) }
-    ensures reads_back { IfOk result (λ file. 4 < length rom_used.now → length rom_used.now ≤ 4190208
-        → length gateways.now ≡ 4096 → is_entry entry (word rom_used.now 4) ≡ true
-        → rom_of_image file ≡ Ok ((rom_used.now ++ zeros (4190208 - length rom_used.now)) ++ gateways.now)) }
+    ensures reads_back { IfOk result (λ file. 4 < length rom_used.now → length rom_used.now ≤ rom_used_most
+        → length gateways.now ≡ gateways_size → is_entry entry (word rom_used.now 4) ≡ true
+        → rom_of_image file ≡ Ok ((rom_used.now ++ zeros (rom_used_most - length rom_used.now)) ++ gateways.now)) }
 {
-    let symbols = symbols_of(alloc, gates)?;
-    let symbols_size = symbols.len();
-    let strings = strings_of(alloc, gates)?;
-    let strings_size = strings.len();
-    let bytes_end = 116 + rom_used.len() + gateways.len();
-    let fill = padding(bytes_end);
-    let strings_at = bytes_end + fill + symbols_size;
-    let strings_end = strings_at + strings_size;
-    let fill2 = padding(strings_end);
-    let names_at = strings_end + fill2;
-    let fill3 = padding(names_at + 27);
-    let header = Header {
-        kind: 2,
-        entry,
-        programs_at: 52,
-        sections_at: (names_at + 27 + fill3) as u32,
-        program_size: 32,
-        programs: 2,
-    };
+    let table = table_of(alloc, gates)?;
+    let rom_size = rom_used.len() as u32;
+    let gateways_size = gateways.len() as u32;
+    let symbols_size = table.symbols.len() as u32;
+    let strings_size = table.strings.len() as u32;
+    let layout = layout_of(rom_size, gateways_size, symbols_size, strings_size);
     let tables = Tables {
-        symbols_at: (bytes_end + fill) as u32,
-        symbols_size: symbols_size as u32,
-        strings_at: strings_at as u32,
-        strings_size: strings_size as u32,
-        names_at: names_at as u32,
+        symbols_at: layout.symbols_at,
+        symbols_size,
+        strings_at: layout.strings_at,
+        strings_size,
+        names_at: layout.names_at,
     };
     let mut file = Bytes::new(alloc);
-    put_front(&mut file, &header, rom_used, gateways, fill)?;
-    put_tables(&mut file, symbols, strings, fill2, fill3, &tables)?;
+    put_headers(&mut file, entry, rom_size, gateways_size, &layout)?;
+    put_parts(&mut file, rom_used, gateways, &table, &layout)?;
+    put_table_sections(&mut file, &tables)?;
     Ok(file)
 }

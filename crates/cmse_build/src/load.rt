@@ -1,11 +1,15 @@
 //! Reading an image.
-ghost use Rattle.std.specs.Prelude.{◌≡◌, ◌+◌, ◌<◌, ◌≤◌, ◌^◌, ◌++◌, [], ◌∷◌, length, slice_get, nat_le, if◌then◌else◌, All, OnOk, IfOk};
+ghost use Rattle.std.specs.Prelude.{◌≡◌, ◌+◌, ◌-◌, ◌<◌, ◌≤◌, ◌^◌, ◌++◌, [], ◌∷◌, length, slice_get, nat_le, if◌then◌else◌, All, OnOk, IfOk};
 ghost use Rattle.std.specs.List.{fold, list_any};
+ghost use Rattle.cm_base.specs.declared.regions.TheConstants.{SECURE_ROM, NSC};
+ghost use Rattle.elf32.specs.Constants.{PROGRAM_HEADER_SIZE};
 ghost use Rattle.elf32.specs.Fields.{field16, field32};
 ghost use Rattle.cmse_build.specs.Reading.{Gives, GivesOrNoMemory, Leaves, test, is, is_count, word, half, field_at, identification_of, header_of, meets, has_place, is_loaded, segment_of, segment_test, Fits, with_segment, with_segments, with_bytes, zeros, rom_size, rom_of, is_entry, rom_of_image};
 
-use cm_base::{Bytes, List, NoMemory};
-use elf32::{get16, get32};
+use cm_base::{Bytes, List, NSC, NoMemory, SECURE_ROM};
+use elf32::{
+    EF_ARM_EABI_VER5, ELF_MAGIC, ELFCLASS32, ELFDATA2LSB, EM_ARM, ET_EXEC, EV_CURRENT, HEADER_SIZE, PROGRAM_HEADER_SIZE, PT_LOAD, get16, get32,
+};
 use std::alloc::Global;
 use thiserror::Error;
 use v8m_core::Image;
@@ -41,14 +45,14 @@ struct Segment {
     filled: u32,
 }
 
-/// The size of the Secure ROM and its Non-secure callable part.
-const ROM_SIZE: usize = 0x40_0000;
+/// The size of the Secure ROM and its Non-secure callable region.
+const ROM_SIZE: usize = (NSC.to - SECURE_ROM.from) as usize;
 
-const ROM_FROM: u32 = 0x1000_0000;
+/// The top byte of e_flags.
+const ABI_VERSION: u8 = (EF_ARM_EABI_VER5 >> 24) as u8;
 
-const ROM_TO: u32 = 0x1040_0000;
-
-const MAGIC: u32 = 0x464c_457f;
+/// How far one program header stands behind another.
+const ONE_HEADER: u32 = PROGRAM_HEADER_SIZE as u32;
 
 /// Where the fields of the file header begin.
 const HEADER_FIELDS: [u32; 18] = [
@@ -134,31 +138,33 @@ fn word(bytes: &[u8], at: u32) -> u32
 fn test_identification(bytes: &[u8]) -> Result<(), u32>
     ensures { Gives (λ _. tt) result (identification_of bytes.now) }
 {
-    test(52 <= bytes.len(), field_at(bytes.len() as u64))?;
-    test(is32(bytes, 0, MAGIC), 0)?;
-    test(is8(bytes, 4, 1), 4)?;
-    test(is8(bytes, 5, 1), 5)?;
-    test(is8(bytes, 6, 1), 6)
+    test(HEADER_SIZE as usize <= bytes.len(), field_at(bytes.len() as u64))?;
+    test(is32(bytes, 0, ELF_MAGIC), 0)?;
+    test(is8(bytes, 4, ELFCLASS32), 4)?;
+    test(is8(bytes, 5, ELFDATA2LSB), 5)?;
+    test(is8(bytes, 6, EV_CURRENT as u8), 6)
 }
 
 #[tactic(auto, unfolding(crate::specs::Reading::header_of))]
 fn test_header(bytes: &[u8]) -> Result<(), u32>
     ensures { Gives (λ _. tt) result (header_of bytes.now) }
 {
-    test(is16(bytes, 16, 2), 16)?;
-    test(is16(bytes, 18, 40), 18)?;
-    test(is32(bytes, 20, 1), 20)?;
-    test(is8(bytes, 39, 5), 36)?;
-    test(is16(bytes, 42, 32), 42)?;
+    test(is16(bytes, 16, ET_EXEC), 16)?;
+    test(is16(bytes, 18, EM_ARM), 18)?;
+    test(is32(bytes, 20, EV_CURRENT), 20)?;
+    test(is8(bytes, 39, ABI_VERSION), 36)?;
+    test(is16(bytes, 42, PROGRAM_HEADER_SIZE), 42)?;
     test(is_count(bytes), 44)
 }
 
-/// Whether two segments have a byte in common.
+/// Whether two segments have a byte in common: an empty one has none.
 fn meets(s: &Segment, t: &Segment) -> bool
     ensures { result ≡ meets s.now t.now }
 {
     u64::from(s.at) < u64::from(t.at) + u64::from(t.size)
         && u64::from(t.at) < u64::from(s.at) + u64::from(s.size)
+        && 0 < s.size
+        && 0 < t.size
 }
 
 fn meets_any(s: &Segment, earlier: &[Segment]) -> bool
@@ -174,14 +180,14 @@ fn meets_any(s: &Segment, earlier: &[Segment]) -> bool
 
 /// Whether a program header has bytes to load.
 fn is_loaded(bytes: &[u8], at: u32) -> bool
-    requires { at + 32 < 2 ^ 32 }
+    requires { at + PROGRAM_HEADER_SIZE < 2 ^ 32 }
     ensures { result ≡ is_loaded bytes.now at }
 {
-    word(bytes, at) == 1 && word(bytes, at + 16) != 0
+    word(bytes, at) == PT_LOAD && word(bytes, at + 16) != 0
 }
 
 fn segment_of(bytes: &[u8], at: u32) -> Segment
-    requires { at + 32 < 2 ^ 32 }
+    requires { at + PROGRAM_HEADER_SIZE < 2 ^ 32 }
     ensures { result ≡ segment_of bytes.now at }
 {
     Segment {
@@ -192,18 +198,18 @@ fn segment_of(bytes: &[u8], at: u32) -> Segment
     }
 }
 
-/// Whether a segment lies in the Secure ROM and meets no earlier one.
+/// Whether a segment lies in the Secure ROM and its Non-secure callable region, and meets no earlier one.
 fn has_place(s: &Segment, earlier: &[Segment]) -> bool
     ensures { result ≡ has_place s.now earlier.now }
 {
-    ROM_FROM <= s.at
-        && u64::from(s.at) + u64::from(s.size) <= u64::from(ROM_TO)
+    SECURE_ROM.from <= s.at
+        && u64::from(s.at) + u64::from(s.size) <= u64::from(NSC.to)
         && !meets_any(s, earlier)
 }
 
 #[tactic(auto, unfolding(crate::specs::Reading::segment_test))]
 fn test_segment(bytes: &[u8], at: u32, earlier: &[Segment], s: &Segment) -> Result<(), u32>
-    requires { at + 32 < 2 ^ 32 }
+    requires { at + PROGRAM_HEADER_SIZE < 2 ^ 32 }
     ensures value { Gives (λ _. tt) result (segment_test bytes.now at earlier.now s.now) }
     ensures fits { OnOk result (Fits (length bytes.now) s.now) }
 {
@@ -220,11 +226,11 @@ fn add_segment(bytes: &[u8], at: u32, segments: &mut List<Segment>) -> Result<()
     ensures value { Leaves result segments.new (with_segment bytes.now at segments.old) }
     ensures fits { All (Fits (length bytes.now)) segments.old
         → OnOk result (All (Fits (length bytes.now)) segments.new) }
-    ensures whole { OnOk result (at + 32 ≤ length bytes.now) }
+    ensures whole { OnOk result (at + PROGRAM_HEADER_SIZE ≤ length bytes.now) }
 {
     let size = bytes.len() as u32;
     let cut = at + 4 * (size.saturating_sub(at) / 4);
-    test(u64::from(at) + 32 <= u64::from(size), cut).map_err(ImageFault::BadImage)?;
+    test(u64::from(at) + u64::from(ONE_HEADER) <= u64::from(size), cut).map_err(ImageFault::BadImage)?;
     if !is_loaded(bytes, at) {
         return Ok(());
     }
@@ -245,7 +251,7 @@ fn segments_of(alloc: Global, bytes: &[u8]) -> Result<List<Segment>, ImageFault>
     let mut at = word(bytes, 28);
     for _i in 0..half(bytes, 44) {
         add_segment(bytes, at, &mut segments)?;
-        at += 32;
+        at += ONE_HEADER;
     }
     Ok(segments)
 }
@@ -258,11 +264,11 @@ fn put_bytes(rom: &mut [u8], at: usize, bytes: &[u8])
     rom[at..at + bytes.len()].copy_from_slice(bytes);
 }
 
-/// The size of the Secure ROM and its Non-secure callable part.
+/// The size of the Secure ROM and its Non-secure callable region.
 #[tactic(auto, unfolding(crate::specs::Reading::rom_size))]
 fn rom_size() -> usize
     ensures value { result ≡ rom_size }
-    ensures is { result ≡ 4194304 }
+    ensures is { result ≡ NSC.to - SECURE_ROM.from }
 {
     ROM_SIZE
 }
@@ -280,13 +286,13 @@ fn zeros(alloc: Global, n: usize) -> Result<Vec<u8>, NoMemory>
 fn rom_of(alloc: Global, bytes: &[u8], segments: &[Segment]) -> Result<Bytes, NoMemory>
     requires { All (Fits (length bytes.now)) segments.now }
     ensures value { IfOk result (λ rom. rom ≡ rom_of bytes.now segments.now) }
-    ensures whole { IfOk result (λ rom. length rom ≡ 4194304) }
+    ensures whole { IfOk result (λ rom. length rom ≡ NSC.to - SECURE_ROM.from) }
 {
     let mut rom = zeros(alloc, rom_size())?;
     for s in segments {
         let from = s.from as usize;
         let filled = &bytes[from..from + s.filled as usize];
-        put_bytes(rom.as_mut_slice(), (s.at - ROM_FROM) as usize, filled);
+        put_bytes(rom.as_mut_slice(), (s.at - SECURE_ROM.from) as usize, filled);
     }
     Ok(Bytes::from_vec(rom))
 }
@@ -303,7 +309,7 @@ fn is_entry(entry: u32, reset: u32) -> bool
 pub fn load_image(alloc: Global, bytes: &[u8]) -> Result<Image, ImageFault>
     requires { length bytes.now < 2 ^ 32 }
     ensures value { GivesOrNoMemory (λ image. image.rom) result (rom_of_image bytes.now) }
-    ensures whole { IfOk result (λ image. length image.rom ≡ 4194304) }
+    ensures whole { IfOk result (λ image. length image.rom ≡ NSC.to - SECURE_ROM.from) }
 {
     test_identification(bytes).map_err(ImageFault::BadImage)?;
     test_header(bytes).map_err(ImageFault::BadImage)?;

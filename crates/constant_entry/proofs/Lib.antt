@@ -1,9 +1,13 @@
+pub mod Entering
 pub mod States
 pub mod Pieces
 pub mod Views
+pub mod Seals
 pub mod Refine
 pub mod Whole
 pub mod Clean
 pub mod Placed
 pub mod Tracked
+pub mod Room
 pub mod Quiet
+pub mod OneEntry

@@ -1,7 +1,7 @@
 -- The runs of the start code and of an entry that gives a constant.
-use Rattle.std.proofs.Common.{◌≡◌, ℕ, ◌+◌, ◌*◌, ◌/◌, ◌%◌, List, refl, ap, arith}
+use Rattle.std.proofs.Common.{◌≡◌, ℕ, ◌+◌, ◌*◌, ◌/◌, ◌%◌, refl, ap, arith}
 use Rattle.v8m_isa.specs.Table.{size_of}
-use Rattle.ns_types.specs.State.{State}
+use Rattle.ns_types.specs.State.{Device, State}
 use Rattle.ns_types.specs.Platform.{is_readable, is_writable}
 use Rattle.ns_types.specs.Memory.{load}
 use Rattle.v8m_core.specs.Step.{effect_of, apply, write_register, load_stop, store_stop, went, put}
@@ -10,30 +10,30 @@ use Rattle.constant_entry.specs.Code.{stacks_code, hand_code, entry_front}
 use Rattle.constant_entry.proofs.States.{sealed, handing, answering}
 use Rattle.v8m_core.proofs.Runs.{straight}
 
-pub seal_does : (rom : List ℕ) (s : State) → Does rom stacks_code s (sealed s)
+pub seal_does : (device : Device) (s : State) → Does device stacks_code s (sealed s)
 unfolding size_of effect_of apply write_register load_stop store_stop is_readable is_writable
-seal_does rom s =
+seal_does device s =
     (_, refl, refl, (_, refl, refl, (_, refl, refl, (_, refl, refl, (_, refl, refl, (_, refl, refl, (_, refl, refl, (_, refl, refl, (_, refl, refl, (_, refl, refl, (_, refl, refl, (_, refl, refl, (_, refl, refl, (_, refl, refl, (_, refl, refl, (_, refl, refl, (_, refl, refl, (_, refl, refl, (_, refl, refl, (_, refl, refl, (_, refl, refl, (_, refl, tt, refl))))))))))))))))))))))
 
-pub seal_runs : (rom : List ℕ) (s : State) → HasCode rom s.cpu.pc stacks_code → Comes rom 22 s (sealed s)
-seal_runs rom s has = straight rom stacks_code s (sealed s) has (seal_does rom s)
+pub seal_runs : (device : Device) (s : State) → HasCode device s.cpu.pc stacks_code → Comes device 22 s (sealed s)
+seal_runs device s has = straight device stacks_code s (sealed s) has (seal_does device s)
 
-pub hand_does : (rom : List ℕ) (s : State) → Does rom hand_code s (handing s)
+pub hand_does : (device : Device) (s : State) → Does device hand_code s (handing s)
 unfolding size_of effect_of apply write_register load_stop load is_readable
-hand_does rom s =
+hand_does device s =
     (_, refl, refl, (_, refl, refl, (_, refl, refl, (_, refl, refl, (_, refl, refl, (_, refl, refl, (_, refl, refl, (_, refl, refl, (_, refl, refl, (_, refl, refl, (_, refl, refl, (_, refl, refl, (_, refl, refl, (_, refl, refl, (_, refl, refl, (_, refl, refl, (_, refl, refl, (_, refl, refl, (_, refl, tt, refl)))))))))))))))))))
 
-pub hand_runs : (rom : List ℕ) (s : State) → HasCode rom s.cpu.pc hand_code → Comes rom 19 s (handing s)
-hand_runs rom s has = straight rom hand_code s (handing s) has (hand_does rom s)
+pub hand_runs : (device : Device) (s : State) → HasCode device s.cpu.pc hand_code → Comes device 19 s (handing s)
+hand_runs device s has = straight device hand_code s (handing s) has (hand_does device s)
 
 -- two halves make a number
 halves : (n : ℕ) → 65536 * (n / 65536) + n % 65536 % 65536 ≡ n
 halves n = omega arith
 
-pub answer_does : (rom : List ℕ) (n : ℕ) (s : State) → Does rom (entry_front n) s (answering n s)
+pub answer_does : (device : Device) (n : ℕ) (s : State) → Does device (entry_front n) s (answering n s)
 unfolding size_of effect_of apply write_register
-answer_does rom n s =
+answer_does device n s =
     (_, refl, refl, (_, ap (λ v. went (put 4 0 v (put 4 0 (n % 65536) s))) (halves n), refl, (_, refl, refl, (_, refl, refl, (_, refl, refl, (_, refl, refl, (_, refl, tt, refl)))))))
 
-pub answer_runs : (rom : List ℕ) (n : ℕ) (s : State) → HasCode rom s.cpu.pc (entry_front n) → Comes rom 7 s (answering n s)
-answer_runs rom n s has = straight rom (entry_front n) s (answering n s) has (answer_does rom n s)
+pub answer_runs : (device : Device) (n : ℕ) (s : State) → HasCode device s.cpu.pc (entry_front n) → Comes device 7 s (answering n s)
+answer_runs device n s has = straight device (entry_front n) s (answering n s) has (answer_does device n s)

@@ -9,15 +9,19 @@ use Rattle.std.proofs.lemmas.Bool.{cases_lt}
 use Rattle.v8m_isa.specs.declared.instr.Instr.{Instr}
 use Rattle.v8m_isa.specs.declared.instr.Instr.TheVariants.{Mov, Bxns, Udf, Movw, Movt, Msr}
 use Rattle.v8m_isa.specs.Table.{in_range_of, size_of, code_of}
-use Rattle.ns_types.specs.Platform.{lies_in}
-use Rattle.ns_types.specs.Memory.{half_at, word_at}
-use Rattle.ns_types.specs.Gateway.{fetched, is_gateway}
-use Rattle.v8m_isa.proofs.Laws.{size-code_of, size_of_two_or_four}
-use Rattle.v8m_core.specs.Code.{two, HasCode, instr_bytes, code_bytes, AllInRange}
-use Rattle.v8m_core.proofs.Bytes.{word_at_seam, length_bytes, has_code}
-use Rattle.elf32.specs.Fields.{le32}
-use Rattle.constant_entry.specs.Code.{start_code, entry_code, gateway_code, vectors, used_bytes, gateway_bytes, rom_bytes, start_place, entry_place}
-use Rattle.constant_entry.specs.Shows.{first_veneer, GivesConstant}
+use Rattle.ns_types.specs.Platform.{row_size, lies_in}
+use Rattle.ns_types.specs.SecureRam.{main_seal}
+use Rattle.ns_types.specs.Memory.{half_at, word_at, rom_size}
+use Rattle.ns_types.specs.Gateway.{fetched, sg_half, is_gateway}
+use Rattle.v8m_isa.proofs.DecodingLaws.{size-code_of, size_of_two_or_four}
+use Rattle.cm_base.specs.LittleEndian.{le16, le32}
+use Rattle.cm_base.specs.declared.regions.TheConstants.{SECURE_ROM, NSC}
+use Rattle.v8m_isa.specs.Bytes.{instr_bytes, code_bytes, AllInRange}
+use Rattle.v8m_isa.proofs.ByteLaws.{length_bytes}
+use Rattle.v8m_core.specs.Code.{HasCode}
+use Rattle.v8m_core.proofs.Bytes.{word_at_seam, has_code}
+use Rattle.constant_entry.specs.Code.{start_code, entry_code, gateway_code, vectors, used_bytes, gateway_bytes, rom_bytes, constant_device, start_place, entry_place, stop_place, first_veneer}
+use Rattle.constant_entry.specs.Shows.{GivesConstant}
 
 -- how many bytes code has
 abbrev code_size : List Instr → ℕ
@@ -83,6 +87,13 @@ entry_ranges n h = (low_in_range n, (high_in_range n h, rest_ranges))
 abbrev zeros : ℕ → List ℕ
 zeros n = replicate n 0
 
+-- the bytes between the code and the callable region, and those behind the gateway
+abbrev rest_of : ℕ → List ℕ
+rest_of n = zeros (row_size 2 - length (used_bytes n))
+
+abbrev region_rest : ℕ
+region_rest = row_size 3 - 8
+
 length-replicate : (n : ℕ) → length (zeros n) ≡ n
 length-replicate n = grind (arith, common_steps)
 
@@ -103,34 +114,38 @@ pieces_2 a b x d e z g = simp append_assoc
 pieces_4 : (a b x d e z g : List ℕ) → ((((a ++ b) ++ x) ++ d) ++ e) ++ z ++ g ≡ ((a ++ b) ++ x) ++ (d ++ (e ++ (z ++ g)))
 pieces_4 a b x d e z g = simp append_assoc
 
-rom_size : (n : ℕ) → length (rom_bytes n) ≡ 4194304
-rom_size n =
-    length-append (used_bytes n ++ zeros (4190208 - length (used_bytes n))) gateway_bytes
-    ∙ ap (λ k. k + length gateway_bytes) (length-append (used_bytes n) (zeros (4190208 - length (used_bytes n))) ∙ ap (λ k. length (used_bytes n) + k) (length-replicate (4190208 - length (used_bytes n))))
-    ∙ ap (λ k. k + (4190208 - k) + length gateway_bytes) (used_size n)
-    ∙ ap (λ k. 4190208 + k) (length-append (code_bytes gateway_code) (zeros 4088) ∙ ap (λ k. k + length (zeros 4088)) gateway_size ∙ ap (λ k. 8 + k) (length-replicate 4088))
+pub region_size : length gateway_bytes ≡ row_size 3
+region_size =
+    length-append (code_bytes gateway_code) (zeros region_rest) ∙ ap (λ k. k + length (zeros region_rest)) gateway_size ∙ ap (λ k. 8 + k) (length-replicate region_rest)
 
-before_size : (n : ℕ) → length (used_bytes n ++ zeros (4190208 - length (used_bytes n))) ≡ 4190208
+all_size : (n : ℕ) → length (rom_bytes n) ≡ rom_size
+all_size n =
+    length-append (used_bytes n ++ rest_of n) gateway_bytes
+    ∙ ap (λ k. k + length gateway_bytes) (length-append (used_bytes n) (rest_of n) ∙ ap (λ k. length (used_bytes n) + k) (length-replicate (row_size 2 - length (used_bytes n))))
+    ∙ ap (λ k. k + (row_size 2 - k) + length gateway_bytes) (used_size n)
+    ∙ ap (λ k. row_size 2 + k) region_size
+
+before_size : (n : ℕ) → length (used_bytes n ++ rest_of n) ≡ row_size 2
 before_size n =
-    length-append (used_bytes n) (zeros (4190208 - length (used_bytes n))) ∙ ap (λ k. length (used_bytes n) + k) (length-replicate (4190208 - length (used_bytes n)))
-    ∙ ap (λ k. k + (4190208 - k)) (used_size n)
+    length-append (used_bytes n) (rest_of n) ∙ ap (λ k. length (used_bytes n) + k) (length-replicate (row_size 2 - length (used_bytes n)))
+    ∙ ap (λ k. k + (row_size 2 - k)) (used_size n)
 
 front_size : length ((vectors ++ code_bytes start_code) ++ 0 ∷ 0 ∷ []) ≡ 208
 front_size = length-append (vectors ++ code_bytes start_code) (0 ∷ 0 ∷ []) ∙ ap (λ k. k + 2) (length-append vectors (code_bytes start_code) ∙ ap (λ k. 64 + k) start_size)
 
-start_stands : (n : ℕ) → HasCode (rom_bytes n) start_place start_code
+start_stands : (n : ℕ) → HasCode (constant_device n) start_place start_code
 start_stands n =
-    has_code start_code (rom_bytes n) vectors _ (pieces_2 vectors (code_bytes start_code) (0 ∷ 0 ∷ []) (code_bytes (entry_code n)) (code_bytes (Udf 0 ∷ [])) (zeros (4190208 - length (used_bytes n))) gateway_bytes) (let e = rom_size n in omega arith) start_ranges
+    has_code start_code (rom_bytes n) vectors _ (pieces_2 vectors (code_bytes start_code) (0 ∷ 0 ∷ []) (code_bytes (entry_code n)) (code_bytes (Udf 0 ∷ [])) (rest_of n) gateway_bytes) (let e = all_size n in omega arith) start_ranges
 
-entry_stands : (n : ℕ) → n < 4294967296 → HasCode (rom_bytes n) entry_place (entry_code n)
+entry_stands : (n : ℕ) → n < 4294967296 → HasCode (constant_device n) entry_place (entry_code n)
 entry_stands n h =
-    subst (λ k. HasCode (rom_bytes n) (268435456 + k) (entry_code n)) front_size
-    (has_code (entry_code n) (rom_bytes n) ((vectors ++ code_bytes start_code) ++ 0 ∷ 0 ∷ []) _ (pieces_4 vectors (code_bytes start_code) (0 ∷ 0 ∷ []) (code_bytes (entry_code n)) (code_bytes (Udf 0 ∷ [])) (zeros (4190208 - length (used_bytes n))) gateway_bytes) (let e = rom_size n in omega arith) (entry_ranges n h))
+    subst (λ k. HasCode (constant_device n) (SECURE_ROM.from + k) (entry_code n)) front_size
+    (has_code (entry_code n) (rom_bytes n) ((vectors ++ code_bytes start_code) ++ 0 ∷ 0 ∷ []) _ (pieces_4 vectors (code_bytes start_code) (0 ∷ 0 ∷ []) (code_bytes (entry_code n)) (code_bytes (Udf 0 ∷ [])) (rest_of n) gateway_bytes) (let e = all_size n in omega arith) (entry_ranges n h))
 
-gateway_stands : (n : ℕ) → HasCode (rom_bytes n) first_veneer gateway_code
+gateway_stands : (n : ℕ) → HasCode (constant_device n) first_veneer gateway_code
 gateway_stands n =
-    subst (λ k. HasCode (rom_bytes n) (268435456 + k) gateway_code) (before_size n)
-    (has_code gateway_code (rom_bytes n) (used_bytes n ++ zeros (4190208 - length (used_bytes n))) (zeros 4088) refl (let e = rom_size n in omega arith) gateway_ranges)
+    subst (λ k. HasCode (constant_device n) (SECURE_ROM.from + k) gateway_code) (before_size n)
+    (has_code gateway_code (rom_bytes n) (used_bytes n ++ rest_of n) (zeros region_rest) refl (let e = all_size n in omega arith) gateway_ranges)
 
 -- the bytes of the gateway and of the branch behind it
 gateway_cells : code_bytes gateway_code ≡ 127 ∷ 233 ∷ 127 ∷ 233 ∷ 1 ∷ 244 ∷ 100 ∷ 184 ∷ []
@@ -153,8 +168,8 @@ unfolding half_at
 half_zero n k = ap (λ x. (x + 256 * slice_index (zeros n) (k + 1)) % 65536) (zero_at n k) ∙ ap (λ x. (0 + 256 * x) % 65536) (zero_at n (k + 1))
 
 -- a halfword of the callable region
-half_there : (n a k : ℕ) → a ≡ 272625664 + k → fetched (rom_bytes n) a ≡ half_at gateway_bytes k
-half_there n a k e = half_past (used_bytes n ++ zeros (4190208 - length (used_bytes n))) gateway_bytes k (a - 268435456) (let b = before_size n in omega arith)
+half_there : (n a k : ℕ) → a ≡ NSC.from + k → fetched (constant_device n) a ≡ half_at gateway_bytes k
+half_there n a k e = half_past (used_bytes n ++ rest_of n) gateway_bytes k (a - SECURE_ROM.from) (let b = before_size n in omega arith)
 
 pub code_bytes-is : (is : List Instr) → code_bytes is ≡ flat_map instr_bytes is
 code_bytes-is [] = refl
@@ -182,24 +197,24 @@ pub gateway_all : All (λ i. IsTrue (in_range_of i)) gateway_code
 gateway_all = all_of gateway_code gateway_ranges
 
 -- an instruction's bytes, as they are written
-pub instr_wide : (i : Instr) (s : ℕ) → (code_of i).size ≡ s → s ≡ 4 → instr_bytes i ≡ two (code_of i).first ++ two (code_of i).second
+pub instr_wide : (i : Instr) (s : ℕ) → (code_of i).size ≡ s → s ≡ 4 → instr_bytes i ≡ le16 (code_of i).first ++ le16 (code_of i).second
 instr_wide i s e f =
-    ap (λ n. cond (eqb n 2) (two (code_of i).first) (two (code_of i).first ++ two (code_of i).second)) (sym (size-code_of i) ∙ e ∙ f)
+    ap (λ n. cond (eqb n 2) (le16 (code_of i).first) (le16 (code_of i).first ++ le16 (code_of i).second)) (sym (size-code_of i) ∙ e ∙ f)
 
-pub instr_narrow : (i : Instr) (s : ℕ) → (code_of i).size ≡ s → s ≢ 4 → instr_bytes i ≡ two (code_of i).first
+pub instr_narrow : (i : Instr) (s : ℕ) → (code_of i).size ≡ s → s ≢ 4 → instr_bytes i ≡ le16 (code_of i).first
 instr_narrow i s e f =
     let n : size_of i ≡ 2 = ⊎_elim (λ t. t) (λ t. absurd (f (sym e ∙ size-code_of i ∙ t))) (size_of_two_or_four i) in
-    ap (λ n. cond (eqb n 2) (two (code_of i).first) (two (code_of i).first ++ two (code_of i).second)) n
+    ap (λ n. cond (eqb n 2) (le16 (code_of i).first) (le16 (code_of i).first ++ le16 (code_of i).second)) n
 
 -- the callable region, byte by byte
 abbrev cells : List ℕ → List ℕ
 cells rest = 127 ∷ 233 ∷ 127 ∷ 233 ∷ 1 ∷ 244 ∷ 100 ∷ 184 ∷ rest
 
-region_is : gateway_bytes ≡ cells (zeros 4088)
-region_is = ap (λ l. l ++ zeros 4088) gateway_cells
+region_is : gateway_bytes ≡ cells (zeros region_rest)
+region_is = ap (λ l. l ++ zeros region_rest) gateway_cells
 
 abbrev opens_at : List ℕ → ℕ → Bool
-opens_at bytes k = eqb (half_at bytes k) 59775 && eqb (half_at bytes (k + 2)) 59775
+opens_at bytes k = eqb (half_at bytes k) sg_half && eqb (half_at bytes (k + 2)) sg_half
 
 -- SG stands at the beginning, and at no other even place
 opens_first : (rest : List ℕ) → opens_at (cells rest) 0 ≡ true
@@ -218,10 +233,10 @@ opens_nowhere n (suc (suc (suc (suc (suc (suc zero)))))) even ne = refl
 opens_nowhere n (suc (suc (suc (suc (suc (suc (suc zero))))))) even ne = absurd (omega arith)
 opens_nowhere n (suc (suc (suc (suc (suc (suc (suc (suc j)))))))) even ne =
     let nothing : half_at (cells (zeros n)) (suc (suc (suc (suc (suc (suc (suc (suc j)))))))) ≡ 0 = half_past (127 ∷ 233 ∷ 127 ∷ 233 ∷ 1 ∷ 244 ∷ 100 ∷ 184 ∷ []) (zeros n) j (suc (suc (suc (suc (suc (suc (suc (suc j)))))))) (omega arith) ∙ half_zero n j in
-    ap (λ x. eqb x 59775 && eqb (half_at (cells (zeros n)) (suc (suc (suc (suc (suc (suc (suc (suc j))))))) + 2)) 59775) nothing
+    ap (λ x. eqb x sg_half && eqb (half_at (cells (zeros n)) (suc (suc (suc (suc (suc (suc (suc (suc j))))))) + 2)) sg_half) nothing
 
 -- a gateway is open at the first veneer alone
-gateway_alone : (n a : ℕ) → a % 2 ≡ 0 → is_gateway (rom_bytes n) a ≡ eqb a first_veneer
+gateway_alone : (n a : ℕ) → a % 2 ≡ 0 → is_gateway (constant_device n) a ≡ eqb a first_veneer
 unfolding is_gateway
 gateway_alone n a even =
     ⊎_elim
@@ -229,30 +244,30 @@ gateway_alone n a even =
     (λ from.
     ⊎_elim
     (λ within.
-    let k = a - 272625664 in
-    let at : a ≡ 272625664 + k = omega arith in
-    let here : opens ≡ opens_at (cells (zeros 4088)) k = ap (λ x. eqb x 59775 && eqb (fetched (rom_bytes n) (a + 2)) 59775) (half_there n a k at) ∙ ap (λ x. eqb (half_at gateway_bytes k) 59775 && eqb x 59775) (half_there n (a + 2) (k + 2) (omega arith)) ∙ ap (λ l. opens_at l k) region_is in
+    let k = a - NSC.from in
+    let at : a ≡ NSC.from + k = omega arith in
+    let here : opens ≡ opens_at (cells (zeros region_rest)) k = ap (λ x. eqb x sg_half && eqb (fetched (constant_device n) (a + 2)) sg_half) (half_there n a k at) ∙ ap (λ x. eqb (half_at gateway_bytes k) sg_half && eqb x sg_half) (half_there n (a + 2) (k + 2) (omega arith)) ∙ ap (λ l. opens_at l k) region_is in
     let inn : lies_in 3 a 4 ≡ true = grind (arith, nat_tests) in
     ap (λ b. b && opens) inn ∙ here
     ∙ ⊎_elim
-    (λ first. let z : k ≡ 0 = omega arith in let e : eqb a first_veneer ≡ true = grind (arith, nat_tests) in ap (opens_at (cells (zeros 4088))) z ∙ opens_first (zeros 4088) ∙ sym e)
-    (λ later. let nz : k ≢ 0 = λ z. omega arith in let e : eqb a first_veneer ≡ false = grind (arith, nat_tests) in opens_nowhere 4088 k (omega arith) nz ∙ sym e)
-    (cases_lt a 272625665))
+    (λ first. let z : k ≡ 0 = omega arith in let e : eqb a first_veneer ≡ true = grind (arith, nat_tests) in ap (opens_at (cells (zeros region_rest))) z ∙ opens_first (zeros region_rest) ∙ sym e)
+    (λ later. let nz : k ≢ 0 = λ z. omega arith in let e : eqb a first_veneer ≡ false = grind (arith, nat_tests) in opens_nowhere region_rest k (omega arith) nz ∙ sym e)
+    (cases_lt a (NSC.from + 1)))
     (λ past. let out : lies_in 3 a 4 ≡ false = grind (arith, nat_tests) in let ne : eqb a first_veneer ≡ false = grind (arith, nat_tests) in ap (λ b. b && opens) out ∙ sym ne)
-    (cases_lt a 272629757))
-    (cases_lt a 272625664)
+    (cases_lt a (NSC.to - 3)))
+    (cases_lt a NSC.from)
   where
     opens : Bool
-    opens = eqb (fetched (rom_bytes n) a) 59775 && eqb (fetched (rom_bytes n) (a + 2)) 59775
+    opens = eqb (fetched (constant_device n) a) sg_half && eqb (fetched (constant_device n) (a + 2)) sg_half
 
 -- the first two words
-first_words : (n : ℕ) → (word_at (rom_bytes n) 0 ≡ 805404664) × (word_at (rom_bytes n) 4 ≡ start_place + 1)
+first_words : (n : ℕ) → (word_at (rom_bytes n) 0 ≡ main_seal) × (word_at (rom_bytes n) 4 ≡ start_place + 1)
 first_words n =
-    let rest : List ℕ = flat_map le32 (268435689 ∷ 268435689 ∷ 268435689 ∷ 268435689 ∷ 268435689 ∷ 268435689 ∷ 268435689 ∷ 268435689 ∷ 268435689 ∷ 268435689 ∷ 268435689 ∷ 268435689 ∷ 268435689 ∷ 268435689 ∷ []) ++ (code_bytes start_code ++ (0 ∷ 0 ∷ [] ++ (code_bytes (entry_code n) ++ (code_bytes (Udf 0 ∷ []) ++ (zeros (4190208 - length (used_bytes n)) ++ gateway_bytes))))) in
-    let e : rom_bytes n ≡ le32 805404664 ++ (le32 268435521 ++ rest) = pieces_2 vectors (code_bytes start_code) (0 ∷ 0 ∷ []) (code_bytes (entry_code n)) (code_bytes (Udf 0 ∷ [])) (zeros (4190208 - length (used_bytes n))) gateway_bytes in
-    (ap (λ l. word_at l 0) e ∙ word_at_seam [] (le32 268435521 ++ rest) 805404664 0 (omega arith) refl, ap (λ l. word_at l 4) e ∙ word_at_seam (le32 805404664) rest 268435521 4 (omega arith) refl)
+    let rest : List ℕ = flat_map le32 (replicate 14 (stop_place + 1)) ++ (code_bytes start_code ++ (0 ∷ 0 ∷ [] ++ (code_bytes (entry_code n) ++ (code_bytes (Udf 0 ∷ []) ++ (rest_of n ++ gateway_bytes))))) in
+    let e : rom_bytes n ≡ le32 main_seal ++ (le32 (start_place + 1) ++ rest) = pieces_2 vectors (code_bytes start_code) (0 ∷ 0 ∷ []) (code_bytes (entry_code n)) (code_bytes (Udf 0 ∷ [])) (rest_of n) gateway_bytes in
+    (ap (λ l. word_at l 0) e ∙ word_at_seam [] (le32 (start_place + 1) ++ rest) main_seal 0 (omega arith) refl, ap (λ l. word_at l 4) e ∙ word_at_seam (le32 main_seal) rest (start_place + 1) 4 (omega arith) refl)
 
-pub gives_constant : (n : ℕ) → n < 4294967296 → GivesConstant (rom_bytes n) n
+pub gives_constant : (n : ℕ) → n < 4294967296 → GivesConstant (constant_device n) n
 gives_constant n h = record {
   stack = (first_words n).0;
   reset = (first_words n).1;
@@ -261,6 +276,3 @@ gives_constant n h = record {
   entry = entry_stands n h;
   alone = gateway_alone n;
 }
-
-pub region_size : length gateway_bytes ≡ 4096
-region_size = length-append (code_bytes gateway_code) (zeros 4088) ∙ ap (λ k. k + length (zeros 4088)) gateway_size ∙ ap (λ k. 8 + k) (length-replicate 4088)

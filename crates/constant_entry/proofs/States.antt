@@ -1,8 +1,9 @@
 -- The states that the pieces of the code lead to.
-use Rattle.std.specs.Prelude.{ℕ, bit_and}
+use Rattle.std.specs.Prelude.{ℕ, ◌+◌, bit_and}
 use Rattle.ns_types.specs.State.{State}
 use Rattle.ns_types.specs.Platform.{aligned}
 use Rattle.ns_types.specs.Memory.{word_at, store}
+use Rattle.ns_types.specs.SecureRam.{data_start, main_limit, main_seal, process_limit, process_seal, data_pointer, seal_word}
 use Rattle.v8m_core.specs.Code.{past}
 use Rattle.constant_entry.specs.Code.{stacks_code, hand_code, entry_front}
 
@@ -10,13 +11,13 @@ use Rattle.constant_entry.specs.Code.{stacks_code, hand_code, entry_front}
 abbrev pub sealed : State → State
 sealed s = record {
   cpu = record s.cpu {
-    regs = record s.cpu.regs { r0 = 805408768; r1 = 805306368; r2 = 4277530021 };
+    regs = record s.cpu.regs { r0 = data_pointer; r1 = data_start; r2 = seal_word };
     pc = past s.cpu.pc stacks_code;
-    psp = 805408760;
-    msplim = 805371904;
-    psplim = 805404672;
+    psp = process_seal;
+    msplim = main_limit;
+    psplim = process_limit;
   };
-  memory = store 4 805408768 805306368 (store 4 805404668 4277530021 (store 4 805404664 4277530021 (store 4 805408764 4277530021 (store 4 805408760 4277530021 s.memory))));
+  memory = store 4 data_pointer data_start (store 4 (main_seal + 4) seal_word (store 4 main_seal seal_word (store 4 (process_seal + 4) seal_word (store 4 process_seal seal_word s.memory))));
 }
 
 -- at the BXNS of the start code
@@ -37,7 +38,7 @@ handing s = record s {
       r10 = 0;
       r11 = 0;
       r12 = 0;
-      lr = bit_and (word_at s.memory.ns_rom 4) 4294967294;
+      lr = bit_and (word_at s.memory.ns_rom 4) 0xFFFFFFFE;
     };
     pc = past s.cpu.pc hand_code;
     nzcvq = 0;

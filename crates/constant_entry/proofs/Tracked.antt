@@ -1,21 +1,21 @@
 -- The program's body keeps to what follows from its events, and its bound only lets it go further.
-use Rattle.std.proofs.Common.{ℕ, zero, suc, ◌≤◌, List, [], refl, arith}
+use Rattle.std.proofs.Common.{ℕ, zero, suc, ◌≤◌, List, [], refl, arith, Option}
 use Rattle.std.proofs.lemmas.List.{append-nil}
 use Rattle.ns_types.specs.CRun.{World}
 use Rattle.ns_types.specs.Bounds.{world_of, Adds, Reaches, GoesFurther}
 use Rattle.ns_types.specs.Marks.{Tracker, Follows, Tracks, AreTracked}
-use Rattle.ns_types.specs.Declares.{AllHaveFewArguments, KeepFew}
+use Rattle.ns_types.specs.Declares.{HasFewArguments, AllHaveFewArguments, KeepFew}
 use Rattle.ns_types.proofs.MarkLaws.{run_told}
-use Rattle.ns_types.proofs.FewLaws.{run_few}
+use Rattle.ns_types.proofs.EveryLaws.{run_holds}
 use Rattle.ns_types.specs.Memory.{memory_of}
 use Rattle.ns_turns.specs.Refines.{CallsFew}
-use Rattle.ns_turns.specs.TwoWorlds.{TellsAll}
-use Rattle.constant_entry.specs.Meaning.{enters_first, gives, constant_run}
+use Rattle.ns_turns.specs.TwoWorlds.{AlwaysTold}
+use Rattle.constant_entry.specs.Meaning.{gives, constant_run}
 
-tracked : (n deep : ℕ) → AreTracked enters_first (gives n deep)
-tracked n deep = record { by = by deep }
+tracked : (enters : ℕ → Option ℕ) (n deep : ℕ) → AreTracked enters (gives n deep)
+tracked enters n deep = record { by = by deep }
   where
-    by : (deep : ℕ) (first now : Tracker) (e : ℕ) (args : List ℕ) (w : World) → Follows enters_first first now now w → Tracks enters_first first now.active (gives n deep e args w)
+    by : (deep : ℕ) (first now : Tracker) (e : ℕ) (args : List ℕ) (w : World) → Follows enters first now now w → Tracks enters first now.active (gives n deep e args w)
     by zero first now e args w f = record { by = record { shown = f.told.shown } }
     by (suc deep) first now e args w f = record {
       by = record {
@@ -25,8 +25,8 @@ tracked n deep = record { by = by deep }
       };
     }
 
-pub tells_all : (n : ℕ) → TellsAll enters_first (constant_run n)
-tells_all n start ts b = run_told enters_first (gives n b.deep) (tracked n b.deep) b.turns start (memory_of start) ts
+pub always_told : (enters : ℕ → Option ℕ) (n : ℕ) → AlwaysTold enters (constant_run enters n)
+always_told enters n start ts b = run_told enters (gives n b.deep) (tracked enters n b.deep) b.turns start (memory_of start) ts
 
 -- the body under each bound
 pub goes_further : (n : ℕ) → GoesFurther (λ b. gives n b.deep)
@@ -50,5 +50,6 @@ keeps_few n deep = record { by = by deep }
     by (suc deep) e args w h = h
 
 -- it calls nothing
-pub calls_few : (n : ℕ) → CallsFew (constant_run n)
-calls_few n start ts b = run_few enters_first (gives n b.deep) (keeps_few n b.deep) b.turns start (memory_of start) ts
+pub calls_few : (enters : ℕ → Option ℕ) (n : ℕ) → CallsFew (constant_run enters n)
+calls_few enters n start ts b =
+    run_holds HasFewArguments (record { started = tt; result = λ e x. tt; entry_point = tt; access = tt; return_fault = tt; astray = tt }) enters (gives n b.deep) (keeps_few n b.deep) b.turns start (memory_of start) ts

@@ -3,30 +3,29 @@ use Rattle.std.specs.Prelude.{◌≡◌, ℕ, ◌+◌, ◌%◌, eqb, ◌⊎◌, 
 use Rattle.ns_types.specs.declared.event.Event.{Event}
 use Rattle.ns_types.specs.declared.event.Event.TheVariants as event
 use Rattle.ns_types.specs.declared.event.End.TheVariants as end
-use Rattle.ns_types.specs.Turns.{Turn}
+use Rattle.ns_types.specs.Turns.{Turn, AreTurns}
 use Rattle.ns_types.specs.declared.turn.Start.{Start}
 use Rattle.ns_types.specs.declared.turn.View.{View}
-use Rattle.ns_types.specs.Platform.{row, is_nonsecure}
-use Rattle.ns_types.specs.Memory.{word_at}
+use Rattle.ns_types.specs.State.{Device}
+use Rattle.ns_types.specs.Platform.{is_nonsecure}
+use Rattle.ns_types.specs.SecureRam.{main_seal}
+use Rattle.ns_types.specs.Memory.{word_at, IsStart}
 use Rattle.ns_types.specs.Boundary.{view, in_four, start_mark, turn_mark}
 use Rattle.ns_types.specs.Gateway.{is_gateway}
+use Rattle.ns_types.specs.Stops.{is_clean}
 use Rattle.v8m_core.specs.Code.{HasCode}
 use Rattle.ns_turns.specs.Run.{machine_run}
 use Rattle.ns_types.specs.Prefix.{IsFront}
-use Rattle.constant_entry.specs.Code.{start_code, entry_code, gateway_code, start_place, entry_place}
-
--- the address of the first veneer
-abbrev pub first_veneer : ℕ
-first_veneer = (row 3).from
+use Rattle.constant_entry.specs.Code.{start_code, entry_code, gateway_code, start_place, entry_place, first_veneer}
 
 -- Secure ROM holds the program
-pub record GivesConstant (rom : List ℕ) (n : ℕ) : Type 0 where
-  pub stack : word_at rom 0 ≡ 805404664
-  pub reset : word_at rom 4 ≡ start_place + 1
-  pub start : HasCode rom start_place start_code
-  pub gateway : HasCode rom first_veneer gateway_code
-  pub entry : HasCode rom entry_place (entry_code n)
-  pub alone : (a : ℕ) → a % 2 ≡ 0 → is_gateway rom a ≡ eqb a first_veneer
+pub record GivesConstant (device : Device) (n : ℕ) : Type 0 where
+  pub stack : word_at device.rom 0 ≡ main_seal
+  pub reset : word_at device.rom 4 ≡ start_place + 1
+  pub start : HasCode device start_place start_code
+  pub gateway : HasCode device first_veneer gateway_code
+  pub entry : HasCode device entry_place (entry_code n)
+  pub alone : (a : ℕ) → a % 2 ≡ 0 → is_gateway device a ≡ eqb a first_veneer
 
 -- a turn without items that calls the first entry and gives it a place in Non-secure memory to go back to
 pub record CallsFirst (t : Turn) : Type 0 where
@@ -46,6 +45,11 @@ two_views start t n = event.Given (started_view start) ∷ event.Given (result_v
 
 -- For every start that begins in Non-secure memory, every such turn and every number of steps the events are a front
 -- of the two views, and for some number they are both, and the machine waits for the next turn.
-pub record ShowsConstant (rom : List ℕ) (n : ℕ) : Type 0 where
-  pub front : (start : Start) (t : Turn) (k : ℕ) → is_nonsecure (word_at start.ns_rom 4) ≡ true → CallsFirst t → IsFront (machine_run rom start (t ∷ []) k).list (two_views start t n)
-  pub both : (start : Start) (t : Turn) → is_nonsecure (word_at start.ns_rom 4) ≡ true → CallsFirst t → (k : ℕ) × (machine_run rom start (t ∷ []) k ≡ record { list = two_views start t n; end = end.Waiting })
+pub record ShowsConstant (device : Device) (n : ℕ) : Type 0 where
+  pub front : (start : Start) (t : Turn) (k : ℕ) → is_nonsecure (word_at start.ns_rom 4) ≡ true → CallsFirst t → IsFront (machine_run device start (t ∷ []) k).list (two_views start t n)
+  pub both : (start : Start) (t : Turn) → is_nonsecure (word_at start.ns_rom 4) ≡ true → CallsFirst t → (k : ℕ) × (machine_run device start (t ∷ []) k ≡ record { list = two_views start t n; end = end.Waiting })
+
+-- No event of a run of the machine is a stop that only a machine has.
+abbrev pub AlwaysClean : Device → Type 0
+AlwaysClean device =
+    (start : Start) → IsStart start → (ts : List Turn) → AreTurns ts → (k : ℕ) → is_clean (machine_run device start ts k).list ≡ true

@@ -3,60 +3,76 @@
 
 pub mod laws;
 
-ghost use Rattle.std.specs.Prelude.{◌≡◌, ◌++◌, ◌∷◌, [], replicate, OnOk, IfOk, IsTrue, All};
+ghost use Rattle.std.specs.Prelude.{◌≡◌, ◌/◌, ◌%◌, ◌++◌, ◌∷◌, [], replicate, OnOk, IfOk, IsTrue, All};
+ghost use Rattle.cm_base.specs.LittleEndian.{le32};
 ghost use Rattle.v8m_isa.specs.Table.{in_range_of};
-ghost use Rattle.v8m_core.specs.Code.{instr_bytes, code_bytes};
+ghost use Rattle.v8m_isa.specs.declared.instr.Instr.TheVariants.{Movt, Movw};
+ghost use Rattle.v8m_isa.specs.Bytes.{instr_bytes, code_bytes};
 ghost use Rattle.std.specs.List.{flat_map};
-ghost use Rattle.elf32.specs.Fields.{le32};
 ghost use Rattle.constant_entry.specs.Code.{start_code, entry_code, vector_words, used_bytes, gateway_bytes};
 
-use cm_base::{Bytes, NoMemory};
+use cm_base::{
+    Bytes, DATA_POINTER, MAIN_SEAL, NSC, NoMemory, PROCESS_LIMIT, PROCESS_SEAL, SEAL_WORD,
+    SECURE_CONTROL, SECURE_DATA, SECURE_ROM,
+};
 use elf32::{put16, put32};
 use std::alloc::Global;
 use v8m_isa::{Instr, encode};
 
 /// The address of the code that an image starts with, and of the one entry's code.
-pub const START: u32 = 0x1000_0040;
+pub const START: u32 = SECURE_ROM.from + 0x40;
 
-pub const ENTRY: u32 = 0x1000_00D0;
+pub const ENTRY: u32 = SECURE_ROM.from + 0xD0;
 
 /// The address of the one veneer, the first place of the Non-secure callable region.
-pub const VENEER: u32 = 0x103F_F000;
+pub const VENEER: u32 = NSC.from;
 
-// The first word of the main stack's seal, and the place of the one UDF 0.
-const STACK: u32 = 0x3001_7FF8;
-
-const STOP: u32 = 0x1000_00E8;
+// The place of the one UDF 0.
+const STOP: u32 = SECURE_ROM.from + 0xE8;
 
 // The bytes of the Non-secure callable region behind the one gateway.
-const REST: usize = 4088;
+const REST: u32 = NSC.to - NSC.from - 8;
+
+// The low half of a number into a register.
+fn low(d: u32, v: u32) -> Instr
+    ensures { result ≡ Movw d (v % 65536) }
+{
+    Instr::Movw { d, i: v % 0x1_0000 }
+}
+
+// The high half above it.
+fn high(d: u32, v: u32) -> Instr
+    ensures { result ≡ Movt d (v / 65536) }
+{
+    Instr::Movt { d, i: v / 0x1_0000 }
+}
 
 fn start_code() -> [Instr; 42]
     ensures { result ≡ start_code }
 {
-    use Instr::{Bic, Bxns, Ldr, Mov, Movt, Movw, Msr, Str};
+    use Instr::{Bic, Bxns, Ldr, Mov, Movw, Msr, Str};
     [
-        Movw { d: 0, i: 0x0000 },
-        Movt { d: 0, i: 0x3001 },
+        low(0, SECURE_CONTROL.from),
+        high(0, SECURE_CONTROL.from),
         Msr { s: 10, n: 0 },
-        Movw { d: 0, i: 0x8FF8 },
-        Movt { d: 0, i: 0x3001 },
+        low(0, PROCESS_SEAL),
+        high(0, PROCESS_SEAL),
         Msr { s: 9, n: 0 },
-        Movw { d: 1, i: 0x8000 },
-        Movt { d: 1, i: 0x3001 },
+        low(1, PROCESS_LIMIT),
+        high(1, PROCESS_LIMIT),
         Msr { s: 11, n: 1 },
-        Movw { d: 2, i: 0xEDA5 },
-        Movt { d: 2, i: 0xFEF5 },
+        low(2, SEAL_WORD),
+        high(2, SEAL_WORD),
         Str { t: 2, n: 0, i: 0 },
         Str { t: 2, n: 0, i: 4 },
-        Movw { d: 0, i: 0x7FF8 },
-        Movt { d: 0, i: 0x3001 },
+        low(0, MAIN_SEAL),
+        high(0, MAIN_SEAL),
         Str { t: 2, n: 0, i: 0 },
         Str { t: 2, n: 0, i: 4 },
-        Movw { d: 0, i: 0x9000 },
-        Movt { d: 0, i: 0x3001 },
-        Movw { d: 1, i: 0x0000 },
-        Movt { d: 1, i: 0x3000 },
+        low(0, DATA_POINTER),
+        high(0, DATA_POINTER),
+        low(1, SECURE_DATA.from),
+        high(1, SECURE_DATA.from),
         Str { t: 1, n: 0, i: 0 },
         Movw { d: 0, i: 0 },
         Ldr { t: 1, n: 0, i: 0 },
@@ -84,16 +100,10 @@ fn start_code() -> [Instr; 42]
 fn entry_code(n: u32) -> [Instr; 8]
     ensures { result ≡ entry_code n }
 {
-    use Instr::{Bxns, Mov, Movt, Movw, Msr};
+    use Instr::{Bxns, Mov, Movw, Msr};
     [
-        Movw {
-            d: 0,
-            i: n % 0x1_0000,
-        },
-        Movt {
-            d: 0,
-            i: n / 0x1_0000,
-        },
+        low(0, n),
+        high(0, n),
         Movw { d: 1, i: 0 },
         Mov { d: 2, m: 1 },
         Mov { d: 3, m: 1 },
@@ -153,7 +163,7 @@ fn vector_words() -> [u32; 16]
 {
     const EACH: u32 = STOP + 1;
     [
-        STACK,
+        MAIN_SEAL,
         START + 1,
         EACH,
         EACH,
@@ -197,6 +207,6 @@ pub fn gateways(alloc: Global) -> Result<Bytes, NoMemory>
         },
     ];
     put_code(&mut bytes, &code)?;
-    put_zeros(&mut bytes, REST)?;
+    put_zeros(&mut bytes, REST as usize)?;
     Ok(bytes)
 }

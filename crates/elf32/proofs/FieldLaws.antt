@@ -1,7 +1,8 @@
 -- Laws on fields: what was appended is read back, wherever it stands.
 use Rattle.std.proofs.Common.{◌≡◌, ℕ, ◌+◌, ◌*◌, ◌/◌, ◌%◌, ◌^◌, ◌<◌, List, [], ◌∷◌, ◌++◌, length, drop, zero, suc, Some, refl, sym, ◌∙◌, ap, arith}
 use Rattle.std.proofs.lemmas.List.{drop_at, append_assoc, drop-drop}
-use Rattle.elf32.specs.Fields.{le16, le32, first16, first32, field16, field32, AreBytes}
+use Rattle.cm_base.specs.LittleEndian.{le16, le32}
+use Rattle.elf32.specs.Fields.{first16, first32, field16, field32, AreBytes}
 
 value16 : (v : ℕ) → v < 2 ^ 16 → v % 256 + 256 * (v / 256 % 256) ≡ v
 value16 v lt = grind arith

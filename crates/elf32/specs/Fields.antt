@@ -1,13 +1,5 @@
--- Fields of an ELF32 file, the byte of least worth first (System V ABI, Data Encoding: ELFDATA2LSB).
-use Rattle.std.specs.Prelude.{ℕ, ◌+◌, ◌*◌, ◌/◌, ◌%◌, ◌<◌, List, [], ◌∷◌, drop, slice_index, Option, Some, None}
-
--- the bytes of a 16-bit field
-abbrev pub le16 : ℕ → List ℕ
-le16 v = v % 256 ∷ v / 256 % 256 ∷ []
-
--- the bytes of a 32-bit field
-abbrev pub le32 : ℕ → List ℕ
-le32 v = v % 256 ∷ v / 256 % 256 ∷ v / 65536 % 256 ∷ v / 16777216 % 256 ∷ []
+-- Fields of an ELF32 file, the byte of least worth first (System V ABI, Data Encoding: ELFDATA2LSB), as they are read.
+use Rattle.std.specs.Prelude.{ℕ, ◌+◌, ◌*◌, ◌<◌, List, [], ◌∷◌, drop, slice_index, Option, Some, None}
 
 -- the number that the first two bytes hold
 abbrev pub first16 : List ℕ → Option ℕ

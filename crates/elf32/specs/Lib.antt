@@ -1,1 +1,4 @@
+pub mod Constants
 pub mod Fields
+pub mod Structures
+pub mod Tables

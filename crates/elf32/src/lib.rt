@@ -1,8 +1,26 @@
-//! The little-endian fields of an ELF32 file for Arm (ELF for the Arm Architecture: ELFDATA2LSB).
+//! ELF32 files for Arm: their fields, structures and tables (System V ABI, Object Files; ELF for the Arm Architecture).
 #![tactic(auto)]
 
 ghost use Rattle.std.specs.Prelude.{◌≡◌, ◌+◌, ◌≤◌, ◌++◌, ◌↔◌, length, IsSome, OnOk, OnErr};
-ghost use Rattle.elf32.specs.Fields.{le16, le32, field16, field32};
+ghost use Rattle.cm_base.specs.LittleEndian.{le16, le32};
+ghost use Rattle.elf32.specs.Fields.{field16, field32};
+
+mod constants;
+mod structures;
+mod tables;
+
+pub use constants::{
+    EF_ARM_EABI_VER5, ELF_MAGIC, ELFCLASS32, ELFDATA2LSB, EM_ARM, ET_EXEC, ET_NONE, ET_REL, EV_CURRENT, HEADER_SIZE, PF_R, PF_X, PROGRAM_HEADER_SIZE, PT_LOAD,
+    SECTION_HEADER_SIZE, SHN_ABS, SHN_UNDEF, SHT_NULL, SHT_STRTAB, SHT_SYMTAB, STB_GLOBAL, STT_FUNC, SYMBOL_SIZE,
+};
+pub use structures::{
+    ARM_HEADER, FileHeader, NULL_SECTION, NULL_SYMBOL, ProgramHeader, SectionHeader, Symbol, absolute_function,
+    put_header, put_program_header, put_section_header, put_symbol,
+};
+pub use tables::{
+    SECTION_NAMES, SECTION_NAMES_SIZE, SymbolTable, Tables, aligned, padding, put_padded, put_section_headers,
+    put_table_sections,
+};
 
 use cm_base::{Bytes, NoMemory};
 

@@ -1,2 +1,1 @@
-pub mod Elf
 pub mod Library

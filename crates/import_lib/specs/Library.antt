@@ -1,41 +1,52 @@
--- The bytes of an import library (ECM0359818, Import library).
-use Rattle.std.specs.Prelude.{◌≡◌, ◌≢◌, ℕ, ◌+◌, ◌%◌, ◌^◌, ◌<◌, List, [], ◌∷◌, ◌++◌, length, map, replicate, All, AllPairs, Contains}
+-- The import library: an object file of absolute symbols alone (ECM0359818, Import library).
+use Rattle.std.specs.Prelude.{◌≡◌, ◌≢◌, ℕ, ◌+◌, ◌*◌, ◌%◌, ◌^◌, ◌<◌, List, ◌++◌, length, map, All, AllPairs, Contains}
 use Rattle.std.specs.List.Sorted.{IsStrictlyIncreasing}
+use Rattle.elf32.specs.declared.structures.FileHeader.{FileHeader}
+use Rattle.elf32.specs.declared.structures.Symbol.{Symbol}
+use Rattle.elf32.specs.declared.tables.Tables.{Tables}
+use Rattle.elf32.specs.Constants.{ET_REL, HEADER_SIZE, SECTION_HEADER_SIZE}
+use Rattle.elf32.specs.Structures.{header_bytes, arm_header, absolute_function}
+use Rattle.elf32.specs.Tables.{names_of, symbol_table, string_table, section_names, table_sections_bytes, aligned, padded}
 use Rattle.ns_types.specs.declared.event.Veneer.{Veneer}
-use Rattle.import_lib.specs.Elf.{header_of, symbol_of, sections_of, string_table, section_names, padding}
 
--- the names of veneers
-abbrev pub names_of : List Veneer → List (List ℕ)
-names_of veneers = map (λ v. v.name) veneers
+-- the symbol of a veneer: a function at its address with bit 0 set, since it is even, of the size of a veneer
+abbrev pub symbol_of : Veneer → List ℕ × Symbol
+symbol_of v = (v.name, absolute_function (v.address + 1) 8)
 
--- The symbols of veneers whose names begin at this offset of the string table and follow one another: the address
--- with bit 0 set, since it is even, and the size of a veneer.
-abbrev pub symbols_from : ℕ → List Veneer → List ℕ
-symbols_from at [] = []
-symbols_from at (v ∷ vs) =
-    symbol_of (record { name = at; value = v.address + 1; size = 8 }) ++ symbols_from (at + (length v.name + 1)) vs
+abbrev pub symbols_of : List Veneer → List (List ℕ × Symbol)
+symbols_of veneers = map symbol_of veneers
 
--- the null symbol, and then one for each veneer
-unfoldable pub symbol_table : List Veneer → List ℕ
-symbol_table veneers = replicate 16 0 ++ symbols_from 1 veneers
+-- the header of an object file with four sections from this offset on, the last of which has their names
+abbrev pub library_header : ℕ → FileHeader
+library_header sections_at = record arm_header { e_type = ET_REL; e_shoff = sections_at; e_shnum = 4; e_shstrndx = 3 }
 
--- where the section names begin
-abbrev pub names_at : List Veneer → ℕ
-names_at veneers = 52 + length (symbol_table veneers) + length (string_table (names_of veneers))
+-- where the tables of a library stand: behind the header, one behind the other
+abbrev pub tables_of : List Veneer → Tables
+tables_of veneers = record {
+  symbols_at = HEADER_SIZE;
+  symbols_size = length (symbol_table (symbols_of veneers));
+  strings_at = HEADER_SIZE + length (symbol_table (symbols_of veneers));
+  strings_size = length (string_table (names_of (symbols_of veneers)));
+  names_at = HEADER_SIZE + length (symbol_table (symbols_of veneers)) + length (string_table (names_of (symbols_of veneers)));
+}
+
+-- where the section headers stand
+abbrev pub sections_at : List Veneer → ℕ
+sections_at veneers = let t = tables_of veneers in aligned (t.names_at + length section_names)
 
 -- The file: its header, the symbols, their names, the names of the sections, zero bytes up to a multiple of 4, and the
--- four section headers.
+-- section headers.
 unfoldable pub library_of : List Veneer → List ℕ
 library_of veneers =
-    let names = names_at veneers in
-    let fill = padding (names + 27) in
-    header_of (record { kind = 1; entry = 0; programs_at = 0; sections_at = names + 27 + fill; program_size = 0; programs = 0 })
-    ++ (symbol_table veneers ++ (string_table (names_of veneers) ++ (section_names ++ (replicate fill 0
-    ++ sections_of (record { symbols_at = 52; symbols_size = length (symbol_table veneers); strings_at = 52 + length (symbol_table veneers); strings_size = length (string_table (names_of veneers)); names_at = names })))))
+    header_bytes (library_header (sections_at veneers))
+    ++ (symbol_table (symbols_of veneers)
+    ++ (string_table (names_of (symbols_of veneers))
+    ++ (padded (tables_of veneers).names_at section_names
+    ++ table_sections_bytes (tables_of veneers))))
 
 -- the size of the file of these veneers
 abbrev pub library_size : List Veneer → ℕ
-library_size veneers = names_at veneers + 27 + padding (names_at veneers + 27) + 160
+library_size veneers = sections_at veneers + 4 * SECTION_HEADER_SIZE
 
 -- What can be written: even addresses in ascending order, names that are non-empty, differ and have no zero byte, and a file
 -- below 2 ^ 32 bytes.

@@ -1,97 +1,84 @@
 //! Writing an import library.
-ghost use Rattle.std.specs.Prelude.{◌≡◌, ◌%◌, ◌<◌, ◌^◌, ◌++◌, length, replicate, All, IfOk};
-ghost use Rattle.import_lib.specs.Elf.{string_table, header_of, section_names, sections_of};
-ghost use Rattle.import_lib.specs.Library.{names_of, symbol_table, library_of, CanWrite};
+ghost use Rattle.std.specs.Prelude.{◌≡◌, ◌+◌, ◌%◌, ◌<◌, ◌^◌, ◌++◌, length, All, IfOk};
+ghost use Rattle.elf32.specs.Structures.{header_bytes};
+ghost use Rattle.elf32.specs.Tables.{names_of, symbol_table, string_table, section_names, table_sections_bytes, padded};
+ghost use Rattle.import_lib.specs.Library.{symbols_of, library_of, CanWrite};
 
-use crate::elf::{
-    Header, SECTION_NAMES, Symbol, Tables, padding, put_header, put_sections, put_symbol, put_zeros,
-};
 use cm_base::{Bytes, NoMemory};
+use elf32::{
+    ARM_HEADER, ET_REL, FileHeader, HEADER_SIZE, SECTION_NAMES, SECTION_NAMES_SIZE, SymbolTable, Tables, absolute_function, aligned,
+    put_header, put_padded, put_table_sections,
+};
 use ns_types::{Veneer, Veneers};
 use std::alloc::Global;
 
-/// The string table.
-fn strings_of(alloc: Global, veneers: &[Veneer]) -> Result<Bytes, NoMemory>
-    ensures { IfOk result (λ bytes. bytes ≡ string_table (names_of veneers.now)) }
-{
-    let mut strings = Bytes::new(alloc);
-    strings.push(0)?;
-    for veneer in veneers {
-        strings.extend_from_slice(veneer.name.as_slice())?;
-        strings.push(0)?;
-    }
-    Ok(strings)
-}
+/// The size of a veneer: an SG and a B.W.
+const VENEER_SIZE: u32 = 8;
 
-/// The symbol table.
-#[tactic(auto, unfolding(crate::specs::Library::symbol_table))]
-fn symbols_of(alloc: Global, veneers: &[Veneer]) -> Result<Bytes, NoMemory>
+/// Where the symbol table stands: behind the header.
+const SYMBOLS_AT: u32 = HEADER_SIZE as u32;
+
+/// The symbols of the veneers and their names.
+#[tactic(auto, unfolding(elf32::specs::Tables::symbol_table))]
+fn table_of(alloc: Global, veneers: &[Veneer]) -> Result<SymbolTable, NoMemory>
     requires even { All (λ v. v.address % 2 ≡ 0) veneers.now }
-    requires fits { length (string_table (names_of veneers.now)) < 2 ^ 32 }
-    ensures { IfOk result (λ bytes. bytes ≡ symbol_table veneers.now) }
+    requires fits { length (string_table (names_of (symbols_of veneers.now))) < 2 ^ 32 }
+    ensures symbols { IfOk result (λ table. table.symbols ≡ symbol_table (symbols_of veneers.now)) }
+    ensures strings { IfOk result (λ table. table.strings ≡ string_table (names_of (symbols_of veneers.now))) }
 {
-    let mut symbols = Bytes::new(alloc);
-    put_zeros(&mut symbols, 16)?;
-    let mut name: u32 = 1;
+    let mut table = SymbolTable::new(alloc)?;
     for veneer in veneers {
-        let symbol = Symbol {
-            name,
-            value: veneer.address + 1,
-            size: 8,
-        };
-        put_symbol(&mut symbols, &symbol)?;
-        name += veneer.name.len() as u32 + 1;
+        let symbol = absolute_function(veneer.address + 1, VENEER_SIZE);
+        table.push(veneer.name.as_slice(), &symbol)?;
     }
-    Ok(symbols)
+    Ok(table)
 }
 
-/// A file of its parts in their order, with n zero bytes before the section headers.
+/// A file of its parts in their order.
 fn joined(
     alloc: Global,
-    header: &Header,
-    symbols: Bytes,
-    strings: Bytes,
-    n: usize,
+    header: &FileHeader,
+    table: &SymbolTable,
     tables: &Tables,
 ) -> Result<Bytes, NoMemory>
-    ensures { IfOk result (λ file. file ≡ header_of header.now
-        ++ (symbols ++ (strings ++ (section_names ++ (replicate n 0 ++ sections_of tables.now))))) }
+    requires { tables.now.names_at + length section_names < 2 ^ 32 }
+    ensures { IfOk result (λ file. file ≡ header_bytes header.now
+        ++ (table.now.symbols ++ (table.now.strings
+        ++ (padded tables.now.names_at section_names ++ table_sections_bytes tables.now)))) }
 {
     let mut file = Bytes::new(alloc);
     put_header(&mut file, header)?;
-    file.append(symbols)?;
-    file.append(strings)?;
-    file.extend_from_slice(SECTION_NAMES)?;
-    put_zeros(&mut file, n)?;
-    put_sections(&mut file, tables)?;
+    file.extend_from_slice(table.symbols.as_slice())?;
+    file.extend_from_slice(table.strings.as_slice())?;
+    put_padded(&mut file, tables.names_at, SECTION_NAMES)?;
+    put_table_sections(&mut file, tables)?;
     Ok(file)
 }
 
 /// The import library of these veneers.
+#[tactic(auto, using(elf32::proofs::TableLaws::aligned_least))]
 pub fn write_implib(alloc: Global, veneers: &Veneers) -> Result<Bytes, NoMemory>
     requires { CanWrite veneers.now.list }
     ensures { IfOk result (λ file. file ≡ library_of veneers.now.list) }
 {
-    let symbols = symbols_of(alloc, veneers.list.as_slice())?;
-    let symbols_size = symbols.len();
-    let strings = strings_of(alloc, veneers.list.as_slice())?;
-    let strings_size = strings.len();
-    let names_at = 52 + symbols_size + strings_size;
-    let fill = padding(names_at + 27);
-    let header = Header {
-        kind: 1,
-        entry: 0,
-        programs_at: 0,
-        sections_at: (names_at + 27 + fill) as u32,
-        program_size: 0,
-        programs: 0,
-    };
+    let table = table_of(alloc, veneers.list.as_slice())?;
+    let symbols_size = table.symbols.len() as u32;
+    let strings_at = SYMBOLS_AT + symbols_size;
+    let strings_size = table.strings.len() as u32;
+    let names_at = strings_at + strings_size;
     let tables = Tables {
-        symbols_at: 52,
-        symbols_size: symbols_size as u32,
-        strings_at: 52 + symbols_size as u32,
-        strings_size: strings_size as u32,
-        names_at: names_at as u32,
+        symbols_at: SYMBOLS_AT,
+        symbols_size,
+        strings_at,
+        strings_size,
+        names_at,
     };
-    joined(alloc, &header, symbols, strings, fill, &tables)
+    let header = FileHeader {
+        e_type: ET_REL,
+        e_shoff: aligned(names_at + SECTION_NAMES_SIZE),
+        e_shnum: 4,
+        e_shstrndx: 3,
+        ..ARM_HEADER
+    };
+    joined(alloc, &header, &table, &tables)
 }

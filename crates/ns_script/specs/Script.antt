@@ -3,6 +3,7 @@ use Rattle.std.specs.Prelude.{◌≡◌, ℕ, ◌+◌, ◌-◌, ◌≤◌, ◌&&
 use Rattle.ns_types.specs.declared.turn.Start.{Start}
 use Rattle.ns_types.specs.Turns.{Turn}
 use Rattle.ns_types.specs.Platform.{row}
+use Rattle.ns_types.specs.Memory.{ns_rom_size, ns_ram_size, secure_ram_size}
 use Rattle.ns_script.specs.declared.line.Line.{Line}
 use Rattle.ns_script.specs.declared.line.Line.TheVariants as line
 use Rattle.ns_script.specs.declared.line.Region.{Region}
@@ -10,16 +11,16 @@ use Rattle.ns_script.specs.declared.line.Region.TheVariants.{SecureRam, NsRam, N
 use Rattle.ns_script.specs.declared.script.Script.{Script}
 use Rattle.ns_script.specs.declared.fault.ScriptFault.{ScriptFault}
 use Rattle.ns_script.specs.declared.fault.ScriptFault.TheVariants as fault
-use Rattle.ns_script.specs.Text.{◌>>=◌, given_if, lines, words, number, bytes_in, one_word}
+use Rattle.ns_script.specs.Text.{◌>>=◌, some_if, lines, words, number, bytes_in, one_word}
 use Rattle.ns_script.specs.Turns.{turn_said}
 
 -- `fill`, with the word behind it
 unfoldable pub fill_said : List (List ℕ) → Option Line
-fill_said more = one_word more >>= λ h. number h >>= λ n. given_if (nat_le n 255) (line.Fill n)
+fill_said more = one_word more >>= λ h. number h >>= λ n. some_if (nat_le n 255) (line.Fill n)
 
 -- where n bytes from an address stand behind `from`, if all lie before `to`
 unfoldable pub within : ℕ → ℕ → ℕ → ℕ → Option ℕ
-within from to a n = given_if (nat_le from a && nat_le (a + n) to) (a - from)
+within from to a n = some_if (nat_le from a && nat_le (a + n) to) (a - from)
 
 -- where n bytes from an address stand in the region, if all lie in it; Secure RAM is two rows, one behind the other
 unfoldable pub place_in : Region → ℕ → ℕ → Option ℕ
@@ -27,8 +28,8 @@ place_in SecureRam a n = within (row 4).from (row 5).to a n
 place_in NsRam a n = within (row 1).from (row 1).to a n
 place_in NsRom a n = within (row 0).from (row 0).to a n
 
-abbrev pub region_of : List ℕ → Option Region
-region_of word =
+abbrev pub region_named : List ℕ → Option Region
+region_named word =
     if bytes_eq word (codes "secure") then Some SecureRam
     else (if bytes_eq word (codes "ram") then Some NsRam
     else (if bytes_eq word (codes "rom") then Some NsRom else None))
@@ -45,7 +46,7 @@ words_said [] = None
 words_said (word ∷ more) =
     if bytes_eq word (codes "fill") then fill_said more
     else (if bytes_eq word (codes "turn") then (turn_said more >>= λ t. Some (line.Turn t))
-    else (region_of word >>= λ region. put_said region more))
+    else (region_named word >>= λ region. put_said region more))
 
 -- what a line says
 unfoldable pub line_said : List ℕ → Option Line
@@ -65,28 +66,28 @@ abbrev pub filled : ℕ → Start → Start
 filled b s = record s { secure_ram = replicate (length s.secure_ram) b }
 
 -- what is said so far with what one more line says: memory is said before the first turn
-unfoldable pub acted : Line → Script → Option Script
-acted line.Nothing s = Some s
-acted (line.Fill b) s = given_if (length s.turns == 0) (record s { start = filled b s.start })
-acted (line.Put region place bytes) s = given_if (length s.turns == 0) (record s { start = put region place bytes s.start })
-acted (line.Turn t) s = Some (record s { turns = s.turns ++ t ∷ [] })
+unfoldable pub with_said : Line → Script → Option Script
+with_said line.Nothing s = Some s
+with_said (line.Fill b) s = some_if (length s.turns == 0) (record s { start = filled b s.start })
+with_said (line.Put region place bytes) s = some_if (length s.turns == 0) (record s { start = put region place bytes s.start })
+with_said (line.Turn t) s = Some (record s { turns = s.turns ++ t ∷ [] })
 
 -- n bytes from a place of a region on lie in it
 abbrev pub Lies : Region → ℕ → ℕ → Type 0
-Lies SecureRam place n = place + n ≤ 106496
-Lies NsRam place n = place + n ≤ 131072
-Lies NsRom place n = place + n ≤ 262144
+Lies SecureRam place n = place + n ≤ secure_ram_size
+Lies NsRam place n = place + n ≤ ns_ram_size
+Lies NsRom place n = place + n ≤ ns_rom_size
 
 -- the bytes that a line puts lie in their region
-abbrev pub Fits : Line → Type 0
-Fits line.Nothing = Unit {0}
-Fits (line.Fill b) = Unit {0}
-Fits (line.Put region place bytes) = Lies region place (length bytes)
-Fits (line.Turn t) = Unit {0}
+abbrev pub LineLies : Line → Type 0
+LineLies line.Nothing = Unit {0}
+LineLies (line.Fill b) = Unit {0}
+LineLies (line.Put region place bytes) = Lies region place (length bytes)
+LineLies (line.Turn t) = Unit {0}
 
 -- what is said so far with what the text of one more line says
 unfoldable pub with_line : List ℕ → Script → Option Script
-with_line text s = line_said text >>= λ said. acted said s
+with_line text s = line_said text >>= λ said. with_said said s
 
 -- a line that can't stand here is bad, and so is the script at its number
 abbrev pub or_bad : ℕ → Option Script → (Script → Result Script ℕ) → Result Script ℕ
@@ -101,9 +102,9 @@ script_from k s (text ∷ more) = or_bad k (with_line text s) (λ t. script_from
 unfoldable pub zeros : ℕ → List ℕ
 zeros n = replicate n 0
 
--- the lengths of the device's memory
+-- memory before the first line
 abbrev pub empty_start : Start
-empty_start = record { secure_ram = zeros 106496; ns_ram = zeros 131072; ns_rom = zeros 262144 }
+empty_start = record { secure_ram = zeros secure_ram_size; ns_ram = zeros ns_ram_size; ns_rom = zeros ns_rom_size }
 
 abbrev pub empty_script : Script
 empty_script = record { start = empty_start; turns = [] }
@@ -115,12 +116,6 @@ script_of_lines (first ∷ more) = if bytes_eq first (codes "cmse-script 1") the
 -- what a script says, or the number of its first bad line, from 1
 unfoldable pub script_of : List ℕ → Result Script ℕ
 script_of text = script_of_lines (lines text)
-
--- a start has the bytes of its regions, and no more
-pub record HasRegions (start : Start) : Type 0 where
-  pub ns_rom : length start.ns_rom ≡ 262144
-  pub ns_ram : length start.ns_ram ≡ 131072
-  pub secure_ram : length start.secure_ram ≡ 106496
 
 abbrev pub GivesScript : Result Script ScriptFault → Result Script ℕ → Type 0
 GivesScript (Ok s) said = said ≡ Ok s

@@ -7,8 +7,8 @@ abbrev pub ◌>>=◌ : {A B : Type 0} → Option A → (A → Option B) → Opti
 o >>= f = option_and_then f o
 
 -- the answer, where the test passes
-abbrev pub given_if : {A : Type 0} → Bool → A → Option A
-given_if b x = if b then Some x else None
+abbrev pub some_if : {A : Type 0} → Bool → A → Option A
+some_if b x = if b then Some x else None
 
 -- a line without the carriage return at its end
 unfoldable pub without_return : List ℕ → List ℕ

@@ -7,7 +7,7 @@ use Rattle.ns_types.specs.declared.turn.Item.TheVariants.{Write, Read}
 use Rattle.ns_types.specs.Turns.{Turn}
 use Rattle.ns_script.specs.declared.turn.Setting.{Setting}
 use Rattle.ns_script.specs.declared.turn.Setting.TheVariants.{Register, Access}
-use Rattle.ns_script.specs.Text.{◌>>=◌, given_if, before, behind, number}
+use Rattle.ns_script.specs.Text.{◌>>=◌, some_if, before, behind, number}
 
 -- the names of the registers: r0 to r12, 13 lr, 14 flags, 15 msp, 16 psp
 unfoldable pub names : List (List ℕ)
@@ -22,15 +22,15 @@ unfoldable pub place_of : List ℕ → Option ℕ
 place_of name = place_from 0 names name
 
 -- ADDRESS:BYTE
-unfoldable pub put_said : List ℕ → Option Setting
-put_said text =
+unfoldable pub write_said : List ℕ → Option Setting
+write_said text =
     behind 58 text >>= λ low. number (before 58 text) >>= λ at. number low >>= λ byte.
-    given_if (nat_le byte 255) (Access (Write at byte))
+    some_if (nat_le byte 255) (Access (Write at byte))
 
 -- what a name with its value says
 unfoldable pub named : List ℕ → List ℕ → Option Setting
 named name value =
-    if bytes_eq name (codes "put") then put_said value
+    if bytes_eq name (codes "put") then write_said value
     else (if bytes_eq name (codes "get") then (number value >>= λ at. Some (Access (Read at)))
     else (place_of name >>= λ place. number value >>= λ n. Some (Register place n)))
 
@@ -58,7 +58,7 @@ each_once [] = true
 each_once (s ∷ more) = if is_again s more then false else each_once more
 
 abbrev pub value_at : ℕ → Setting → Option ℕ
-value_at k (Register place n) = given_if (place == k) n
+value_at k (Register place n) = some_if (place == k) n
 value_at k (Access item) = None
 
 -- the value of a register, which is 0 where it isn't named
@@ -75,8 +75,9 @@ abbrev pub items_of : List Setting → List Item
 items_of [] = []
 items_of (s ∷ more) = option_to_list (item_in s) ++ items_of more
 
-unfoldable pub turn_of : ℕ → List Setting → Turn
-turn_of target ss = record {
+-- the turn that goes to the target with these settings
+unfoldable pub turn_made : ℕ → List Setting → Turn
+turn_made target ss = record {
   r = value_of 0 ss ∷ value_of 1 ss ∷ value_of 2 ss ∷ value_of 3 ss ∷ value_of 4 ss ∷ value_of 5 ss ∷ value_of 6 ss ∷ value_of 7 ss ∷ value_of 8 ss ∷ value_of 9 ss ∷ value_of 10 ss ∷ value_of 11 ss ∷ value_of 12 ss ∷ [];
   lr = value_of 13 ss;
   nzcvq = value_of 14 ss;
@@ -91,4 +92,4 @@ abbrev pub turn_said : List (List ℕ) → Option Turn
 turn_said [] = None
 turn_said (h ∷ more) =
     number h >>= λ target. settings more >>= λ ss.
-    given_if (each_once ss && nat_le (value_of 14 ss) 31) (turn_of target ss)
+    some_if (each_once ss && nat_le (value_of 14 ss) 31) (turn_made target ss)

@@ -6,7 +6,7 @@ ghost use Rattle.ns_script.specs.Script as spec;
 
 use crate::text::{bytes_in, is, next_word, number, one_word};
 use crate::turn::turn_said;
-use cm_base::{Bytes, NoMemory, PLATFORM};
+use cm_base::{Bytes, NS_RAM, NS_ROM, NoMemory, SECURE_CONTROL, SECURE_DATA};
 use ns_types::Turn;
 use std::alloc::Global;
 
@@ -34,7 +34,7 @@ pub enum Line {
 #[tactic(auto, unfolding(crate::specs::Script::fill_said))]
 fn fill_said(words: Option<&[u8]>) -> Option<Line>
     ensures value { result ≡ spec.fill_said (words_left (option_copied words.entry)) }
-    ensures fits { IfSome result spec.Fits }
+    ensures fits { IfSome result spec.LineLies }
 {
     let word = one_word(words)?;
     let n = number(word)?;
@@ -65,22 +65,22 @@ fn place_in(region: Region, at: u32, count: usize) -> Option<usize>
 {
     match region {
         Region::SecureRam => {
-            let place = within(PLATFORM.rows[4].from, PLATFORM.rows[5].to, at, count)?;
+            let place = within(SECURE_DATA.from, SECURE_CONTROL.to, at, count)?;
             Some(place)
         }
         Region::NsRam => {
-            let place = within(PLATFORM.rows[1].from, PLATFORM.rows[1].to, at, count)?;
+            let place = within(NS_RAM.from, NS_RAM.to, at, count)?;
             Some(place)
         }
         Region::NsRom => {
-            let place = within(PLATFORM.rows[0].from, PLATFORM.rows[0].to, at, count)?;
+            let place = within(NS_ROM.from, NS_ROM.to, at, count)?;
             Some(place)
         }
     }
 }
 
-fn region_of(word: &[u8]) -> Option<Region>
-    ensures { result ≡ spec.region_of word.now }
+fn region_named(word: &[u8]) -> Option<Region>
+    ensures { result ≡ spec.region_named word.now }
 {
     if is(word, "secure") {
         return Some(Region::SecureRam);
@@ -97,7 +97,7 @@ fn region_of(word: &[u8]) -> Option<Region>
 /// A region's name, with the words behind it.
 fn put_said(alloc: Global, region: Region, words: Option<&[u8]>) -> Result<Option<Line>, NoMemory>
     ensures value { IfOk result (λ x. x ≡ spec.put_said region (words_left (option_copied words.entry))) }
-    ensures fits { IfOk result (λ x. IfSome x spec.Fits) }
+    ensures fits { IfOk result (λ x. IfSome x spec.LineLies) }
 {
     let Some(text) = words else {
         return Ok(None);
@@ -122,7 +122,7 @@ fn put_said(alloc: Global, region: Region, words: Option<&[u8]>) -> Result<Optio
 #[tactic(auto, unfolding(crate::specs::Script::line_said))]
 pub fn line_said(alloc: Global, text: &[u8]) -> Result<Option<Line>, NoMemory>
     ensures value { IfOk result (λ x. x ≡ spec.line_said text.now) }
-    ensures fits { IfOk result (λ x. IfSome x spec.Fits) }
+    ensures fits { IfOk result (λ x. IfSome x spec.LineLies) }
 {
     if text.is_empty() || text[0] == b'#' {
         return Ok(Some(Line::Nothing));
@@ -137,7 +137,7 @@ pub fn line_said(alloc: Global, text: &[u8]) -> Result<Option<Line>, NoMemory>
         };
         return Ok(Some(Line::Turn(turn)));
     }
-    match region_of(word) {
+    match region_named(word) {
         Some(region) => put_said(alloc, region, more),
         None => Ok(None),
     }

@@ -1,22 +1,23 @@
 //! Scripts.
 
 ghost use Rattle.std.specs.Prelude.{◌≡◌, ◌≤◌, ◌<◌, ◌+◌, ◌^◌, length, replicate, IfOk, IfSome};
+ghost use Rattle.ns_types.specs.Memory.{IsStart};
 ghost use Rattle.ns_script.specs.Text.{lines};
 ghost use Rattle.ns_script.specs.Script as spec;
 
 use crate::fault::ScriptFault;
 use crate::line::{Line, Region, line_said};
 use crate::text::{is, next_line};
-use cm_base::{Bytes, List, NoMemory};
+use cm_base::{Bytes, List, NS_RAM, NS_ROM, NoMemory, SECURE_CONTROL, SECURE_DATA};
 use ns_types::{Start, Turn};
 use std::alloc::Global;
 
 /// The bytes of Secure RAM, Non-secure RAM and Non-secure ROM.
-const SECURE_RAM: usize = 106_496;
+const SECURE_RAM_SIZE: usize = (SECURE_CONTROL.to - SECURE_DATA.from) as usize;
 
-const NS_RAM: usize = 131_072;
+const NS_RAM_SIZE: usize = (NS_RAM.to - NS_RAM.from) as usize;
 
-const NS_ROM: usize = 262_144;
+const NS_ROM_SIZE: usize = (NS_ROM.to - NS_ROM.from) as usize;
 
 /// What the lines so far say.
 #[derive(Debug, Drop)]
@@ -41,9 +42,9 @@ fn write_bytes(to: &mut Bytes, at: usize, more: &[u8])
 #[tactic(auto, unfolding(crate::specs::Script::put), using(crate::proofs::ScriptLaws::sizes))]
 fn put(region: Region, place: usize, more: &[u8], start: &mut Start)
     requires lies { spec.Lies region place (length more.now) }
-    requires whole { spec.HasRegions start.old }
+    requires whole { IsStart start.old }
     ensures after { start.new ≡ spec.put region place more.now start.old }
-    ensures whole { spec.HasRegions start.new }
+    ensures whole { IsStart start.new }
 {
     match region {
         Region::SecureRam => write_bytes(&mut start.secure_ram, place, more),
@@ -72,11 +73,11 @@ fn zeros(alloc: Global, n: usize) -> Result<Bytes, NoMemory>
 /// What a script says before its first line.
 fn empty_script(alloc: Global) -> Result<Script, NoMemory>
     ensures value { IfOk result (λ x. x ≡ spec.empty_script) }
-    ensures whole { IfOk result (λ x. spec.HasRegions x.start) }
+    ensures whole { IfOk result (λ x. IsStart x.start) }
 {
-    let secure_ram = zeros(alloc, SECURE_RAM)?;
-    let ns_ram = zeros(alloc, NS_RAM)?;
-    let ns_rom = zeros(alloc, NS_ROM)?;
+    let secure_ram = zeros(alloc, SECURE_RAM_SIZE)?;
+    let ns_ram = zeros(alloc, NS_RAM_SIZE)?;
+    let ns_rom = zeros(alloc, NS_ROM_SIZE)?;
     Ok(Script {
         start: Start {
             secure_ram,
@@ -88,12 +89,12 @@ fn empty_script(alloc: Global) -> Result<Script, NoMemory>
 }
 
 /// What is said so far with what one more line says; None where it can't stand here.
-#[tactic(auto, unfolding(crate::specs::Script::acted), using(crate::proofs::ScriptLaws::sizes))]
-fn acted(alloc: Global, said: Line, script: Script) -> Result<Option<Script>, NoMemory>
-    requires fits { spec.Fits said }
-    requires whole { spec.HasRegions script.start }
-    ensures value { IfOk result (λ x. x ≡ spec.acted said script) }
-    ensures whole { IfOk result (λ x. IfSome x (λ s. spec.HasRegions s.start)) }
+#[tactic(auto, unfolding(crate::specs::Script::with_said), using(crate::proofs::ScriptLaws::sizes))]
+fn with_said(alloc: Global, said: Line, script: Script) -> Result<Option<Script>, NoMemory>
+    requires fits { spec.LineLies said }
+    requires whole { IsStart script.start }
+    ensures value { IfOk result (λ x. x ≡ spec.with_said said script) }
+    ensures whole { IfOk result (λ x. IfSome x (λ s. IsStart s.start)) }
 {
     let Script {
         mut start,
@@ -122,12 +123,12 @@ fn acted(alloc: Global, said: Line, script: Script) -> Result<Option<Script>, No
 
 /// What is said so far with what the text of one more line says.
 fn with_line(alloc: Global, text: &[u8], script: Script) -> Result<Option<Script>, NoMemory>
-    requires { spec.HasRegions script.start }
+    requires { IsStart script.start }
     ensures value { IfOk result (λ x. x ≡ spec.with_line text.now script) }
-    ensures whole { IfOk result (λ x. IfSome x (λ s. spec.HasRegions s.start)) }
+    ensures whole { IfOk result (λ x. IfSome x (λ s. IsStart s.start)) }
 {
     match line_said(alloc, text)? {
-        Some(said) => acted(alloc, said, script),
+        Some(said) => with_said(alloc, said, script),
         None => Ok(None),
     }
 }
@@ -136,9 +137,9 @@ fn with_line(alloc: Global, text: &[u8], script: Script) -> Result<Option<Script
 #[tactic(auto, using(crate::proofs::ScriptLaws::steps))]
 fn read_lines(alloc: Global, first: Script, text: &[u8]) -> Result<Script, ScriptFault>
     requires room { length text.now + 1 < 2 ^ 32 }
-    requires whole { spec.HasRegions first.start }
+    requires whole { IsStart first.start }
     ensures exact { spec.GivesScript result (spec.script_from 2 first (lines text.now)) }
-    ensures whole { IfOk result (λ x. spec.HasRegions x.start) }
+    ensures whole { IfOk result (λ x. IsStart x.start) }
 {
     let mut script = first;
     let mut rest = text;
@@ -162,7 +163,7 @@ fn read_lines(alloc: Global, first: Script, text: &[u8]) -> Result<Script, Scrip
 pub fn read_script(alloc: Global, bytes: &[u8]) -> Result<(Start, List<Turn>), ScriptFault>
     requires { length bytes.now < 2 ^ 32 }
     ensures exact { spec.Gives result (spec.script_of bytes.now) }
-    ensures whole { IfOk result (λ x. spec.HasRegions x.0) }
+    ensures whole { IfOk result (λ x. IsStart x.0) }
 {
     if bytes.is_empty() {
         return Err(ScriptFault::BadLine(1));

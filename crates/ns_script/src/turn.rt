@@ -71,9 +71,9 @@ fn place_of(name: &[u8]) -> Option<u32>
 }
 
 /// `ADDRESS:BYTE`.
-#[tactic(auto, unfolding(crate::specs::Turns::put_said))]
-fn put_said(text: &[u8]) -> Option<Setting>
-    ensures { result ≡ spec.put_said text.now }
+#[tactic(auto, unfolding(crate::specs::Turns::write_said))]
+fn write_said(text: &[u8]) -> Option<Setting>
+    ensures { result ≡ spec.write_said text.now }
 {
     let (high, low) = cut(text, b':');
     let low = low?;
@@ -94,7 +94,7 @@ fn named(name: &[u8], value: &[u8]) -> Option<Setting>
     ensures { result ≡ spec.named name.now value.now }
 {
     if is(name, "put") {
-        return put_said(value);
+        return write_said(value);
     }
     if is(name, "get") {
         let at = number(value)?;
@@ -223,10 +223,10 @@ fn items_of(alloc: Global, settings: &[Setting]) -> Result<List<Item>, NoMemory>
 }
 
 /// The turn that goes to `target` with these settings.
-#[tactic(auto, unfolding(crate::specs::Turns::turn_of))]
-fn turn_of(alloc: Global, target: u32, said: &[Setting]) -> Result<Turn, NoMemory>
+#[tactic(auto, unfolding(crate::specs::Turns::turn_made))]
+fn turn_made(alloc: Global, target: u32, said: &[Setting]) -> Result<Turn, NoMemory>
     requires { spec.value_of 14 said.now ≤ 31 }
-    ensures { IfOk result (λ t. t ≡ spec.turn_of target said.now) }
+    ensures { IfOk result (λ t. t ≡ spec.turn_made target said.now) }
 {
     let items = items_of(alloc, said)?;
     Ok(Turn {
@@ -271,6 +271,6 @@ pub fn turn_said(alloc: Global, words: Option<&[u8]>) -> Result<Option<Turn>, No
     if !each_once(said.as_slice()) || value_of(FLAGS, said.as_slice()) > 31 {
         return Ok(None);
     }
-    let turn = turn_of(alloc, target, said.as_slice())?;
+    let turn = turn_made(alloc, target, said.as_slice())?;
     Ok(Some(turn))
 }

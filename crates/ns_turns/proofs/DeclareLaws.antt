@@ -11,8 +11,8 @@ use Rattle.ns_turns.specs.Refines.{Only, OnlyDeclared, CallsFew}
 use Rattle.ns_types.specs.State.{Device}
 
 pub declares : (device : Device) (enters : ℕ → Option ℕ) (run : Start → List Turn → Bound → Run) → Only device enters run → CallsFew run → OnlyDeclared device enters run
-declares device enters run only few start whole ts n =
-    let got = only start whole ts n in
+declares device enters run only few start whole ts are n =
+    let got = only start whole ts are n in
     let b = got.0 in
     let o = got.1 in
     let shown = show enters (run start ts b).list in

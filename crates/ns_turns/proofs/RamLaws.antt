@@ -24,43 +24,38 @@ use Rattle.ns_types.proofs.Crossings.{ram_same}
 use Rattle.v8m_core.specs.declared.stepped.Stepped.{Stepped}
 use Rattle.v8m_core.specs.declared.stepped.Stepped.TheVariants as what
 use Rattle.ns_types.specs.Gateway.{fetched, is_gateway, gateway_at}
-use Rattle.v8m_core.specs.Step.{Done, went, stopped, unless, goes_in, handed, entered, returned, return_stop, return_to, arrived, turned, step_of, turn_of}
+use Rattle.v8m_core.specs.Step.{Done, went, stopped, or_stopped, goes_in, handed, entered, returned, return_stop, return_to, arrived, with_turn, step_of, turn_of}
 use Rattle.v8m_core.specs.Reset.{reset_of}
 use Rattle.v8m_core.proofs.Runs.{stays}
 use Rattle.ns_turns.specs.Run.{event_of, ends, after, next_of, run_of, machine_run}
-use Rattle.ns_turns.specs.Moments.{Moment, moments_of, moments, events_in, given_ram, is_write, Tells, AllTell, KnowsRam}
-use Rattle.ns_turns.proofs.RunLaws.{run_step, run_turn, run_waits}
+use Rattle.ns_turns.specs.Moments.{Moment, moments_of, moments, events_in, given_ram, KnowsRam}
+use Rattle.ns_turns.specs.Tells.{is_write, Tells, AllTell}
+use Rattle.ns_turns.proofs.RunLaws.{run_step, run_turn, run_waits, run_is_over}
 use Rattle.ns_turns.proofs.Tell.{Leads, told}
 
 -- How both go on, by who runs
 
-moments_step : (device : Device) (n : ℕ) (ts : List Turn) (s : State) → s.cpu.side ≡ Secure → moments device (suc n) ts s ≡ moments_of (step_of device s) ++ moments device n ts (step_of device s).state
+pub moments_step : (device : Device) (n : ℕ) (ts : List Turn) (s : State) → s.cpu.side ≡ Secure → moments device (suc n) ts s ≡ moments_of (step_of device s) ++ moments device n ts (step_of device s).state
 unfolding moments
 moments_step device n ts s side =
     ap (λ x. next_of (λ e. []) (λ t rest. moments_of (turn_of device t s) ++ moments device n rest (turn_of device t s).state) (moments_of (step_of device s) ++ moments device n ts (step_of device s).state) x ts) side
 
-moments_turn : (device : Device) (n : ℕ) (t : Turn) (ts : List Turn) (s : State) → s.cpu.side ≡ NonSecure → moments device (suc n) (t ∷ ts) s ≡ moments_of (turn_of device t s) ++ moments device n ts (turn_of device t s).state
+pub moments_turn : (device : Device) (n : ℕ) (t : Turn) (ts : List Turn) (s : State) → s.cpu.side ≡ NonSecure → moments device (suc n) (t ∷ ts) s ≡ moments_of (turn_of device t s) ++ moments device n ts (turn_of device t s).state
 unfolding moments
 moments_turn device n t ts s side =
     ap (λ x. next_of (λ e. []) (λ t rest. moments_of (turn_of device t s) ++ moments device n rest (turn_of device t s).state) (moments_of (step_of device s) ++ moments device n (t ∷ ts) (step_of device s).state) x (t ∷ ts)) side
 
-moments_waits : (device : Device) (n : ℕ) (s : State) → s.cpu.side ≡ NonSecure → moments device n [] s ≡ []
+pub moments_waits : (device : Device) (n : ℕ) (s : State) → s.cpu.side ≡ NonSecure → moments device n [] s ≡ []
 unfolding moments
 moments_waits device zero s side = refl
 moments_waits device (suc n) s side =
     ap (λ x. next_of (λ e. []) (λ t rest. moments_of (turn_of device t s) ++ moments device n rest (turn_of device t s).state) (moments_of (step_of device s) ++ moments device n [] (step_of device s).state) x []) side
 
-moments_stopped : (device : Device) (n : ℕ) (ts : List Turn) (s : State) (x : Stop) → s.cpu.side ≡ Stopped x → moments device n ts s ≡ []
+pub moments_stopped : (device : Device) (n : ℕ) (ts : List Turn) (s : State) (x : Stop) → s.cpu.side ≡ Stopped x → moments device n ts s ≡ []
 unfolding moments
 moments_stopped device zero ts s x side = refl
 moments_stopped device (suc n) ts s x side =
     ap (λ y. next_of (λ e. []) (λ t rest. moments_of (turn_of device t s) ++ moments device n rest (turn_of device t s).state) (moments_of (step_of device s) ++ moments device n ts (step_of device s).state) y ts) side
-
-pub run_is_over : (device : Device) (n : ℕ) (ts : List Turn) (s : State) (x : Stop) → s.cpu.side ≡ Stopped x → run_of device n ts s ≡ ends end.Stopped
-unfolding run_of
-run_is_over device zero ts s x side = ap (λ y. next_of ends (λ t rest. ends end.Spent) (ends end.Spent) y ts) side
-run_is_over device (suc n) ts s x side =
-    ap (λ y. next_of ends (λ t rest. after (turn_of device t s) (run_of device n rest (turn_of device t s).state)) (after (step_of device s) (run_of device n ts (step_of device s).state)) y ts) side
 
 no_event : (device : Device) (ts : List Turn) (s : State) → (run_of device zero ts s).list ≡ []
 unfolding run_of
@@ -72,7 +67,7 @@ no_event device ts s = by s.cpu.side ts
     by NonSecure (t ∷ ts) = refl
     by (Stopped x) ts = refl
 
-no_moment : (device : Device) (ts : List Turn) (s : State) → moments device zero ts s ≡ []
+pub no_moment : (device : Device) (ts : List Turn) (s : State) → moments device zero ts s ≡ []
 unfolding moments
 no_moment device ts s = refl
 
@@ -91,7 +86,7 @@ tell_turn device n t ts s side h =
 events_of_step : (d : Done) (ms : List Moment) (es : List Event) → events_in ms ≡ es → events_in (moments_of d ++ ms) ≡ event_of d.what ++ es
 events_of_step d ms es e = by d.what
   where
-    by : (w : Stepped) → events_in (map (λ e. record { event = e; ram = d.state.memory.ns_ram }) (event_of w) ++ ms) ≡ event_of w ++ es
+    by : (w : Stepped) → events_in (map (λ e. record { event = e; state = d.state }) (event_of w) ++ ms) ≡ event_of w ++ es
     by what.Went = e
     by (what.Wrote a n v) = ap (λ l. event.Wrote a n v ∷ l) e
     by (what.Given view) = ap (λ l. event.Given view ∷ l) e
@@ -185,7 +180,7 @@ module _ (device : Device) (n : ℕ) (ts : List Turn) where
       is_moved : (b : Bool) → crosses (gateway_at device) t ≡ b → moved_past (gateway_at device) (t ∷ ts) ram ≡ moved b
       is_moved b q = ap moved q
 
-      back : (o : Option Stop) (a : ℕ) → AllTell device n ts (unless o u (went (returned a u))).state → CountsAfter (unless o u (went (returned a u))) k (moved true)
+      back : (o : Option Stop) (a : ℕ) → AllTell device n ts (or_stopped o u (went (returned a u))).state → CountsAfter (or_stopped o u (went (returned a u))) k (moved true)
       back None a tells = counts_from (returned a u) k Secure refl next same (h (returned a u) tells k)
       back (Some x) a tells = counts_over x u k (moved true)
 
@@ -205,9 +200,9 @@ module _ (device : Device) (n : ℕ) (ts : List Turn) where
   counts_turn t s h k tell = by (acted t.items s.memory.ns_ram).stop refl tell
     where
       u : State
-      u = turned t (acted t.items s.memory.ns_ram).ram s
+      u = with_turn t (acted t.items s.memory.ns_ram).ram s
 
-      by : (o : Option Stop) → (acted t.items s.memory.ns_ram).stop ≡ o → AllTell device n ts (unless o u (arrived device (goes_in device t.target) (aligned 2 t.target) what.Went u)).state → CountsAfter (unless o u (arrived device (goes_in device t.target) (aligned 2 t.target) what.Went u)) k (moved_past (gateway_at device) (t ∷ ts) s.memory.ns_ram)
+      by : (o : Option Stop) → (acted t.items s.memory.ns_ram).stop ≡ o → AllTell device n ts (or_stopped o u (arrived device (goes_in device t.target) (aligned 2 t.target) what.Went u)).state → CountsAfter (or_stopped o u (arrived device (goes_in device t.target) (aligned 2 t.target) what.Went u)) k (moved_past (gateway_at device) (t ∷ ts) s.memory.ns_ram)
       by None e tells = counts_branch t s.memory.ns_ram u (acted_all t.items s.memory.ns_ram e) (goes_in device t.target) refl h k tells
       by (Some x) e tells = counts_over x u k (moved_past (gateway_at device) (t ∷ ts) s.memory.ns_ram)
 

@@ -1,6 +1,7 @@
 -- Laws of runs: how a run goes on, that more steps only add events, and that a run that is over stays so.
 use Rattle.std.proofs.Common.{◌≡◌, ◌≢◌, ℕ, zero, suc, ◌+◌, ◌≤◌, List, [], ◌∷◌, ◌++◌, refl, sym, ap, ◌∙◌, subst, ⊎_elim, arith, append_assoc}
 use Rattle.std.proofs.lemmas.Bool.{cases_lt}
+use Rattle.cm_base.specs.declared.stop.Stop.{Stop}
 use Rattle.ns_types.specs.declared.event.Event.{Event}
 use Rattle.ns_types.specs.declared.event.End.TheVariants as end
 use Rattle.ns_types.specs.declared.event.Events.{Events}
@@ -35,6 +36,13 @@ unfolding run_of
 run_waits device zero s side = ap (λ x. next_of ends (λ t rest. ends end.Spent) (ends end.Spent) x []) side
 run_waits device (suc n) s side =
     ap (λ x. next_of ends (λ t rest. after (turn_of device t s) (run_of device n rest (turn_of device t s).state)) (after (step_of device s) (run_of device n [] (step_of device s).state)) x []) side
+
+-- a machine that is stopped
+pub run_is_over : (device : Device) (n : ℕ) (ts : List Turn) (s : State) (x : Stop) → s.cpu.side ≡ Stopped x → run_of device n ts s ≡ ends end.Stopped
+unfolding run_of
+run_is_over device zero ts s x side = ap (λ y. next_of ends (λ t rest. ends end.Spent) (ends end.Spent) y ts) side
+run_is_over device (suc n) ts s x side =
+    ap (λ y. next_of ends (λ t rest. after (turn_of device t s) (run_of device n rest (turn_of device t s).state)) (after (step_of device s) (run_of device n ts (step_of device s).state)) y ts) side
 
 -- steps that only go on add no event
 pub run_comes : (device : Device) (k n : ℕ) (ts : List Turn) (s t : State) → s.cpu.side ≡ Secure → Comes device k s t → run_of device (k + n) ts s ≡ run_of device n ts t

@@ -12,7 +12,8 @@ use Rattle.ns_types.specs.State.{Device, State}
 use Rattle.v8m_core.specs.declared.stepped.Stepped.{Stepped}
 use Rattle.v8m_core.specs.Step.{Done, step_of, turn_of}
 use Rattle.ns_turns.specs.Run.{after, ends, next_of, run_of}
-use Rattle.ns_turns.specs.Advance.{Advances, GoesOnTo, behind, then_rest}
+use Rattle.ns_turns.specs.Advance.{Advances, behind, then_rest}
+use Rattle.ns_turns.specs.Runs.{RunsIn}
 
 pub run_stopped : (device : Device) (n : ℕ) (ts : List Turn) (s : State) (x : Stop) → s.cpu.side ≡ Stopped x → run_of device (suc n) ts s ≡ ends end.Stopped
 unfolding run_of
@@ -43,14 +44,14 @@ pub behind_end : (list : List Event) (e : End) → record { list = list; end = e
 behind_end list e = ap (λ l. record { list = l; end = e }) (sym (append-nil list))
 
 -- a run that goes on behind events: k steps that make none, and one step more
-pub run_more : (device rom' rom2 : List ℕ) (left k : ℕ) (ts ts' : List Turn) (s t s' : State) (list : List Event) (r : Result Stepped End) (whole : Events) → k < left → rom' ≡ device → rom2 ≡ rom' → whole ≡ behind list (run_of device left ts s) → GoesOnTo rom' k s t → Advances rom2 ts t r ts' s' → whole ≡ behind list (then_rest r (run_of device (left - k - 1) ts' s'))
-run_more device rom' rom2 left k ts ts' s t s' list r whole lt same same2 so_far on step =
+pub run_more : (device device' device2 : Device) (left k : ℕ) (ts ts' : List Turn) (s t s' : State) (list : List Event) (r : Result Stepped End) (whole : Events) → k < left → device' ≡ device → device2 ≡ device' → whole ≡ behind list (run_of device left ts s) → RunsIn device' k ts s [] ts t → Advances device2 ts t r ts' s' → whole ≡ behind list (then_rest r (run_of device (left - k - 1) ts' s'))
+run_more device device' device2 left k ts ts' s t s' list r whole lt same same2 so_far on step =
     let m = left - k - 1 in
     let count : left ≡ k + suc m = omega arith in
     so_far
     ∙ ap (λ i. behind list (run_of device i ts s)) count
     ∙ ap (λ x. behind list (run_of x (k + suc m) ts s)) (sym same)
-    ∙ ap (behind list) (on (suc m) ts)
+    ∙ ap (behind list) (on (suc m))
     ∙ ap (λ x. behind list (run_of x (suc m) ts t)) (sym same2)
     ∙ ap (behind list) (step m)
     ∙ ap (λ x. behind list (then_rest r (run_of x m ts' s'))) (same2 ∙ same)

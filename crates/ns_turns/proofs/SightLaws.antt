@@ -9,7 +9,7 @@ use Rattle.ns_types.specs.declared.event.Event.TheVariants as event
 use Rattle.ns_types.specs.declared.event.End.TheVariants as end
 use Rattle.ns_types.specs.declared.event.Events.{Events}
 use Rattle.ns_types.specs.declared.event.Bound.{Bound}
-use Rattle.ns_types.specs.Turns.{Turn}
+use Rattle.ns_types.specs.Turns.{Turn, AreTurns}
 use Rattle.ns_types.specs.declared.turn.Start.{Start}
 use Rattle.ns_types.specs.declared.turn.View.{View}
 use Rattle.ns_types.specs.Platform.{row}
@@ -28,7 +28,7 @@ use Rattle.ns_turns.specs.Run.{machine_run}
 use Rattle.ns_turns.specs.GoesOn.{GoesOn}
 use Rattle.ns_types.specs.SecureRam.{room}
 use Rattle.ns_turns.specs.Refines.{seen_of, Same, OutOfRoom, Refines}
-use Rattle.ns_turns.specs.TwoWorlds.{hand_overs, TwoWorlds, TellsAll}
+use Rattle.ns_turns.specs.TwoWorlds.{hand_overs, TwoWorlds, AlwaysTold}
 use Rattle.ns_turns.proofs.RunLaws.{run_goes}
 use Rattle.ns_turns.proofs.OnlyLaws.{front_or_all}
 use Rattle.ns_types.specs.State.{Device}
@@ -101,8 +101,8 @@ agrees_stop enters xs before ys x k v is f e =
     record { view = a.view; ram = λ ts r. ap (λ l. ram_at enters l k ts r) is ∙ ram_stop enters before x k ts r ∙ a.ram ts r }
 
 -- What the machine shows at a hand-over that the program shows too is what the program shows there.
-agrees : (device : Device) (enters : ℕ → Option ℕ) (run : Start → List Turn → Bound → Run) → Refines device enters run → (start : Start) → IsStart start → (ts : List Turn) (b : Bound) (n k : ℕ) (v : View) → k < given_count (seen_of enters (run start ts b)) → view_at (machine_run device start ts n).list k ≡ Some v → Agrees enters (machine_run device start ts n).list (seen_of enters (run start ts b)) k v
-agrees device enters run refines start whole ts b n k v lt e = ⊎_elim same_case room_case got.1
+agrees : (device : Device) (enters : ℕ → Option ℕ) (run : Start → List Turn → Bound → Run) → Refines device enters run → (start : Start) → IsStart start → (ts : List Turn) → AreTurns ts → (b : Bound) (n k : ℕ) (v : View) → k < given_count (seen_of enters (run start ts b)) → view_at (machine_run device start ts n).list k ≡ Some v → Agrees enters (machine_run device start ts n).list (seen_of enters (run start ts b)) k v
+agrees device enters run refines start whole ts are b n k v lt e = ⊎_elim same_case room_case got.1
   where
     c : Run
     c = run start ts b
@@ -111,7 +111,7 @@ agrees device enters run refines start whole ts b n k v lt e = ⊎_elim same_cas
     seen = seen_of enters c
 
     got : (i : ℕ) × (Same (machine_run device start ts i) seen c (min b.turns b.deep) i ⊎ OutOfRoom (machine_run device start ts i) seen c room)
-    got = refines start whole ts b
+    got = refines start whole ts are b
 
     i : ℕ
     i = got.0
@@ -150,26 +150,26 @@ agrees device enters run refines start whole ts b n k v lt e = ⊎_elim same_cas
         (cases_lt i n)
 
 -- the same against the first m events of the program
-agrees_first : (device : Device) (enters : ℕ → Option ℕ) (run : Start → List Turn → Bound → Run) → Refines device enters run → (start : Start) → IsStart start → (ts : List Turn) (b : Bound) (m n k : ℕ) (v : View) → k < hand_overs enters m (run start ts b) → view_at (machine_run device start ts n).list k ≡ Some v → Agrees enters (machine_run device start ts n).list (events_shown (show enters (take m (run start ts b).list))) k v
-agrees_first device enters run refines start whole ts b m n k v lt e =
+agrees_first : (device : Device) (enters : ℕ → Option ℕ) (run : Start → List Turn → Bound → Run) → Refines device enters run → (start : Start) → IsStart start → (ts : List Turn) → AreTurns ts → (b : Bound) (m n k : ℕ) (v : View) → k < hand_overs enters m (run start ts b) → view_at (machine_run device start ts n).list k ≡ Some v → Agrees enters (machine_run device start ts n).list (events_shown (show enters (take m (run start ts b).list))) k v
+agrees_first device enters run refines start whole ts are b m n k v lt e =
     let list = (run start ts b).list in
     let first = events_shown (show enters (take m list)) in
     let seen = events_shown (show enters list) in
     let f = shown_front enters m list in
     let more : given_count first ≤ given_count seen = subst (λ l. given_count first ≤ given_count l) f.1 (count_append first f.0) in
-    let a = agrees device enters run refines start whole ts b n k v (omega arith) e in
+    let a = agrees device enters run refines start whole ts are b n k v (omega arith) e in
     let z = agrees_back enters seen first k v f lt a.view in
     record { view = z.view; ram = λ us r. a.ram us r ∙ z.ram us r }
 
-pub two_worlds : (device : Device) (enters : ℕ → Option ℕ) (run : Start → List Turn → Bound → Run) → Refines device enters run → TellsAll enters run → TwoWorlds device enters run
-two_worlds device enters run refines tells a b whole whole' outside ts c d m same i j k lt v w p q =
+pub two_worlds : (device : Device) (enters : ℕ → Option ℕ) (run : Start → List Turn → Bound → Run) → Refines device enters run → AlwaysTold enters run → TwoWorlds device enters run
+two_worlds device enters run refines told a b whole whole' outside ts are c d m same i j k lt v w p q =
     let l = (run a ts c).list in
     let l' = (run b ts d).list in
     let first : first_tracker b ts ≡ first_tracker a ts = tracker_by (sym outside.ns_rom) in
-    let shows : show enters (take m l) ≡ show enters (take m l') = same_shown enters (first_tracker a ts) l l' m (tells a ts c) (subst (λ t. IsTold enters t l') first (tells b ts d)) same in
+    let shows : show enters (take m l) ≡ show enters (take m l') = same_shown enters (first_tracker a ts) l l' m (told a ts c) (subst (λ t. IsTold enters t l') first (told b ts d)) same in
     let equal : events_shown (show enters (take m l)) ≡ events_shown (show enters (take m l')) = ap events_shown shows in
-    let x = agrees_first device enters run refines a whole ts c m i k v lt p in
-    let y = agrees_first device enters run refines b whole' ts d m j k w (subst (λ z. k < given_count z) equal lt) q in
+    let x = agrees_first device enters run refines a whole ts are c m i k v lt p in
+    let y = agrees_first device enters run refines b whole' ts are d m j k w (subst (λ z. k < given_count z) equal lt) q in
     let views : Some v ≡ Some w = sym x.view ∙ ap (λ z. view_at z k) equal ∙ y.view in
     (cc, x.ram ts a.ns_ram ∙ ap (λ z. ram_at enters z k ts a.ns_ram) equal ∙ ap (λ r. ram_at enters (events_shown (show enters (take m l'))) k ts r) outside.ns_ram ∙ sym (y.ram ts b.ns_ram))
   where

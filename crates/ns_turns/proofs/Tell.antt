@@ -3,7 +3,7 @@ use Rattle.std.proofs.Common.{◌≡◌, ℕ, ◌+◌, ◌-◌, ◌%◌, Bool, t
 use Rattle.std.specs.Prelude.{eqb, not, ◌&&◌}
 use Rattle.cm_base.specs.declared.stop.Stop.{Stop}
 use Rattle.cm_base.specs.declared.stop.Stop.TheVariants as stop
-use Rattle.v8m_isa.specs.Table.{Decoded, decode_of, is_narrow}
+use Rattle.v8m_isa.specs.Decoding.{Decoded, decode_of, is_narrow}
 use Rattle.ns_types.specs.declared.goes.Goes.{Goes}
 use Rattle.ns_types.specs.declared.goes.Goes.TheVariants as goes
 use Rattle.ns_types.specs.declared.state.Cpu.{Cpu}
@@ -18,11 +18,11 @@ use Rattle.v8m_core.specs.declared.stepped.Stepped.{Stepped}
 use Rattle.v8m_core.specs.declared.stepped.Stepped.TheVariants as what
 use Rattle.v8m_core.specs.declared.effect.Effect.{Effect}
 use Rattle.v8m_core.specs.declared.effect.Effect.TheVariants as effect
-use Rattle.v8m_core.specs.Values.{difference32}
+use Rattle.ns_types.specs.Operators.{subtract}
 use Rattle.v8m_core.specs.Lists.{registers, in_list, next, all_stored}
 use Rattle.ns_types.specs.Gateway.{fetched}
-use Rattle.v8m_core.specs.Step.{Done, went, stopped, unless, goes_in, seen, arrived, return_stop, return_to, bx, bxns, limit_stop, link, call_stop, called, only_stopped_by, blxns, effect_of, put, write_register, load_stop, store_stop, pushed_sp, push_stop, pop_stop, pushed, popped, apply, act_or, step_of}
-use Rattle.ns_turns.specs.Moments.{is_write, Tells, none_in_ram, stacks_outside, outside_or, instr_at, StacksOutside}
+use Rattle.v8m_core.specs.Step.{Done, went, stopped, or_stopped, goes_in, seen, arrived, return_stop, return_to, bx, bxns, limit_stop, link, call_stop, called, only_stopped_by, blxns, effect_of, put, write_register, load_stop, store_stop, pushed_sp, push_stop, pop_stop, pushed, popped, apply, act_or, step_of}
+use Rattle.ns_turns.specs.Tells.{is_write, Tells, none_in_ram, stacks_outside, outside_or, instr_at, StacksOutside}
 
 -- after a step from s to t
 abbrev pub Leads : Stepped → State → State → Type 0
@@ -50,9 +50,9 @@ module _ (b : Bool) (s : State) where
   told_went : (t : State) → Keeps t → Told b s (went t)
   told_went t same = record { leads = tt; stays = λ o e. same o }
 
-  told_unless : (o : Option Stop) (t : State) (d : Done) → Keeps t → Told b s d → Told b s (unless o t d)
-  told_unless None t d same h = h
-  told_unless (Some x) t d same h = told_stopped x t same
+  told_or_stopped : (o : Option Stop) (t : State) (d : Done) → Keeps t → Told b s d → Told b s (or_stopped o t d)
+  told_or_stopped None t d same h = h
+  told_or_stopped (Some x) t d same h = told_stopped x t same
 
   told_cond : (x : Bool) (d e : Done) → Told b s d → Told b s e → Told b s (cond x d e)
   told_cond true d e p q = p
@@ -60,7 +60,7 @@ module _ (b : Bool) (s : State) where
 
   told_return : (device : Device) (t : State) → Keeps t → Told b s (return_to device t)
   unfolding return_to
-  told_return device t same = told_unless (return_stop device t) t _ same (told_went _ same)
+  told_return device t same = told_or_stopped (return_stop device t) t _ same (told_went _ same)
 
   told_arrived : (device : Device) (g : Goes) (a : ℕ) (view : View) (t : State) → Keeps t → Told b s (arrived device g a (what.Given view) t)
   told_arrived device (goes.Enter e) a view t same = told_went _ same
@@ -119,12 +119,12 @@ all_outside list (n ∷ ns) r a m h = by (in_list list n) (all_outside list ns r
 told_blxns : (device : Device) (v size : ℕ) (s : State) → Told (stacks_outside (effect.Blxns v) s.cpu) s (blxns device v size s)
 unfolding blxns
 told_blxns device v size s =
-    let sp = difference32 s.cpu.regs.sp 8 in
+    let sp = subtract s.cpu.regs.sp 8 in
     let b = not (in_row 1 sp) && not (in_row 1 (next sp)) in
     let t = called (link size s.cpu) s in
     let same : Keeps b s t = λ o. let p = and_parts (not (in_row 1 sp)) (not (in_row 1 (next sp))) o in store_outside 4 (next sp) 0 (store 4 sp (link size s.cpu) s.memory) p.1 ∙ store_outside 4 sp (link size s.cpu) s.memory p.0 in
     told_pick (eqb (v % 2) 0) b true s _ _
-    (told_unless b s (call_stop s.cpu) s _ (λ o. refl) (told_only b s _ _ (told_arrived b s device (goes_in device v) v (seen t.cpu v) t same)))
+    (told_or_stopped b s (call_stop s.cpu) s _ (λ o. refl) (told_only b s _ _ (told_arrived b s device (goes_in device v) v (seen t.cpu v) t same)))
     (told_cond true s (is_in_rom (v - 1)) _ _ (told_went true s (record s { cpu = record s.cpu { regs = record s.cpu.regs { lr = link size s.cpu }; pc = v - 1 } }) (λ o. refl)) (told_stopped true s stop.BadState s (λ o. refl)))
 
 pub told_apply : (device : Device) (e : Effect) (size : ℕ) (s : State) → s.cpu.side ≡ Secure → Told (stacks_outside e s.cpu) s (apply device e size s)
@@ -132,18 +132,18 @@ unfolding apply write_register store pushed popped
 told_apply device effect.Pass size s h = told_went true s _ (λ o. refl)
 told_apply device (effect.Stop x) size s h = told_stopped true s x s (λ o. refl)
 told_apply device (effect.Put d v) size s h =
-    told_cond true s (eqb d 13) _ _ (told_unless true s (limit_stop v s.cpu) s _ (λ o. refl) (told_went true s (put size 13 (aligned 4 v) s) (λ o. refl))) (told_went true s (put size d v s) (λ o. refl))
-told_apply device (effect.Load t a n) size s h = told_unless true s (load_stop a n) s _ (λ o. refl) (told_went true s _ (λ o. refl))
-told_apply device (effect.LoadSigned t a n) size s h = told_unless true s (load_stop a n) s _ (λ o. refl) (told_went true s _ (λ o. refl))
+    told_cond true s (eqb d 13) _ _ (told_or_stopped true s (limit_stop v s.cpu) s _ (λ o. refl) (told_went true s (put size 13 (aligned 4 v) s) (λ o. refl))) (told_went true s (put size d v s) (λ o. refl))
+told_apply device (effect.Load t a n) size s h = told_or_stopped true s (load_stop a n) s _ (λ o. refl) (told_went true s _ (λ o. refl))
+told_apply device (effect.LoadSigned t a n) size s h = told_or_stopped true s (load_stop a n) s _ (λ o. refl) (told_went true s _ (λ o. refl))
 told_apply device (effect.Store a n v) size s h =
     let m = s.memory in
     let next = record s.cpu { pc = s.cpu.pc + size } in
     let seen_there : State = record { cpu = next; memory = record m { ns_ram = put_number n m.ns_ram (a - (row 1).from) v } } in
     let unseen : State = record { cpu = next; memory = record m { secure_ram = put_number n m.secure_ram (a - (row 4).from) v } } in
-    told_unless true s (store_stop a n) s _ (λ o. refl) (told_stored true s (in_row 1 a) seen_there unseen a n v h refl refl)
+    told_or_stopped true s (store_stop a n) s _ (λ o. refl) (told_stored true s (in_row 1 a) seen_there unseen a n v h refl refl)
 told_apply device (effect.Push list) size s h =
-    told_unless _ s (push_stop list s.cpu) s _ (λ o. refl) (told_went _ s _ (λ o. all_outside list registers s.cpu.regs (pushed_sp list s.cpu) s.memory o))
-told_apply device (effect.Pop list) size s h = told_unless true s (pop_stop list s.cpu) s _ (λ o. refl) (told_went true s _ (λ o. refl))
+    told_or_stopped _ s (push_stop list s.cpu) s _ (λ o. refl) (told_went _ s _ (λ o. all_outside list registers s.cpu.regs (pushed_sp list s.cpu) s.memory o))
+told_apply device (effect.Pop list) size s h = told_or_stopped true s (pop_stop list s.cpu) s _ (λ o. refl) (told_went true s _ (λ o. refl))
 told_apply device (effect.Flags flags) size s h = told_went true s _ (λ o. refl)
 told_apply device (effect.Jump a) size s h = told_went true s _ (λ o. refl)
 told_apply device (effect.Call a) size s h = told_went true s _ (λ o. refl)

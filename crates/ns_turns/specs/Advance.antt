@@ -1,5 +1,5 @@
 -- A run by its steps.
-use Rattle.std.specs.Prelude.{◌≡◌, ℕ, suc, ◌+◌, ◌++◌, List, Result, Ok, Err}
+use Rattle.std.specs.Prelude.{◌≡◌, ℕ, suc, ◌++◌, List, Result, Ok, Err}
 use Rattle.ns_types.specs.declared.event.Event.{Event}
 use Rattle.ns_types.specs.declared.event.End.{End}
 use Rattle.ns_types.specs.declared.event.Events.{Events}
@@ -20,7 +20,3 @@ then_rest (Err e) rest = ends e
 -- a step leads from a state with turns to another one, or the run ends before it
 abbrev pub Advances : Device → List Turn → State → Result Stepped End → List Turn → State → Type 0
 Advances device ts s r ts' s' = (n : ℕ) → run_of device (suc n) ts s ≡ then_rest r (run_of device n ts' s')
-
--- k steps that make no event lead from a state to another one
-abbrev pub GoesOnTo : Device → ℕ → State → State → Type 0
-GoesOnTo device k s t = (n : ℕ) (ts : List Turn) → run_of device (k + n) ts s ≡ run_of device n ts t

@@ -2,5 +2,9 @@ pub mod Run
 pub mod GoesOn
 pub mod Refines
 pub mod Advance
+pub mod Runs
 pub mod Moments
+pub mod Tells
+pub mod FirstHandOver
 pub mod TwoWorlds
+pub mod Unseen

@@ -1,7 +1,6 @@
 -- The machine does what a program does, and shows the caller exactly what the program shows.
-use Rattle.std.specs.Prelude.{◌≡◌, ◌≢◌, ℕ, ◌<◌, ◌≤◌, ◌⊎◌, min, Bool, true, false, not, ◌&&◌, List, [], ◌∷◌, ◌++◌, Option}
-use Rattle.cm_base.specs.declared.stop.Stop.{Stop}
-use Rattle.cm_base.specs.declared.stop.Stop.TheVariants.{Divide, Outside, Misaligned, DataStack, CallTarget, EntryPoint, Access, ReturnFault, Astray, StackLimit, Undefined, Unaligned, Unmapped, BadState}
+use Rattle.std.specs.Prelude.{◌≡◌, ◌≢◌, ℕ, ◌<◌, ◌≤◌, ◌⊎◌, min, true, List, [], ◌∷◌, ◌++◌, Option}
+use Rattle.cm_base.specs.declared.stop.Stop.TheVariants.{StackLimit}
 use Rattle.ns_types.specs.declared.event.Event.{Event}
 use Rattle.ns_types.specs.declared.event.Event.TheVariants as event
 use Rattle.ns_types.specs.declared.event.End.TheVariants as end
@@ -73,3 +72,8 @@ OnlyDeclared device enters run =
 -- each call of the program has at most four arguments
 abbrev pub CallsFew : (Start → List Turn → Bound → Run) → Type 0
 CallsFew run = (start : Start) (ts : List Turn) (b : Bound) → AllHaveFewArguments (run start ts b).list
+
+-- no run of the program has a stop that only a machine has
+abbrev pub StopsAsProgram : (ℕ → Option ℕ) → (Start → List Turn → Bound → Run) → Type 0
+StopsAsProgram enters run =
+    (start : Start) → IsStart start → (ts : List Turn) → AreTurns ts → (b : Bound) → is_clean (seen_of enters (run start ts b)) ≡ true

@@ -33,5 +33,5 @@ TwoWorlds device enters run =
     → SameSight enters (machine_plays device a ts i) (machine_plays device b ts j) (hand_overs enters m (run a ts c))
 
 -- what the caller sees of a run follows from its events
-abbrev pub TellsAll : (ℕ → Option ℕ) → (Start → List Turn → Bound → Run) → Type 0
-TellsAll enters run = (start : Start) (ts : List Turn) (b : Bound) → IsTold enters (first_tracker start ts) (run start ts b).list
+abbrev pub AlwaysTold : (ℕ → Option ℕ) → (Start → List Turn → Bound → Run) → Type 0
+AlwaysTold enters run = (start : Start) (ts : List Turn) (b : Bound) → IsTold enters (first_tracker start ts) (run start ts b).list

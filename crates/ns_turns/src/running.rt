@@ -1,10 +1,12 @@
-ghost use Rattle.std.specs.Prelude.{◌≡◌, ◌≤◌, ◌++◌, IfOk, IsTrue, OnOk, OnErr, drop, length};
+ghost use Rattle.std.specs.Prelude.{◌≡◌, ◌≤◌, List, [], ◌++◌, IfOk, IsTrue, OnOk, OnErr, drop, length};
 ghost use Rattle.ns_types.specs.declared.state.Side.TheVariants as sides;
+ghost use Rattle.ns_types.specs.Turns as turns;
 ghost use Rattle.ns_types.specs.Boundary.{acted};
 ghost use Rattle.v8m_core.specs.Step.{turn_of};
 ghost use Rattle.v8m_core.specs.Parts.{is_quiet};
 ghost use Rattle.ns_turns.specs.Run.{ends, event_of, run_of};
-ghost use Rattle.ns_turns.specs.Advance.{Advances, GoesOnTo};
+ghost use Rattle.ns_turns.specs.Advance.{Advances};
+ghost use Rattle.ns_turns.specs.Runs.{RunsIn};
 
 use cm_base::{List, NoMemory};
 use ns_types::{End, Event, Events, Side, Turn};
@@ -26,7 +28,7 @@ pub fn play_turn(machine: &mut Machine, turn: &Turn) -> Stepped
 fn go_on(machine: &mut Machine, most: u64) -> u64
     ensures device { machine.new.device ≡ machine.old.device }
     ensures most { result ≤ most }
-    ensures steps { GoesOnTo machine.old.device result machine.old.state machine.new.state }
+    ensures steps { (ts : List turns.Turn) → RunsIn machine.old.device result ts machine.old.state [] ts machine.new.state }
 {
     match machine.side() {
         Side::Secure => machine.go_on(most),

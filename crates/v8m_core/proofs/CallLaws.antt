@@ -8,9 +8,9 @@ use Rattle.ns_types.specs.declared.state.Side.TheVariants.{Secure}
 use Rattle.ns_types.specs.State.{Device, State, Memory}
 use Rattle.ns_types.specs.Platform.{is_readable, is_writable, is_in_rom, aligned}
 use Rattle.ns_types.specs.Memory.{IsWhole, load, store}
-use Rattle.v8m_core.specs.Values.{difference32}
+use Rattle.ns_types.specs.Operators.{subtract}
 use Rattle.v8m_core.specs.Lists.{next}
-use Rattle.v8m_core.specs.Step.{went, stopped, unless, or_stop, returned, return_stop, return_to, call_stop, called, only_stopped}
+use Rattle.v8m_core.specs.Step.{went, stopped, or_stopped, or_stop, returned, return_stop, return_to, call_stop, called, only_stopped}
 use Rattle.v8m_core.proofs.Ram.{place, load_same, load_other, whole_store, readable_where_writable}
 
 -- a call that doesn't stop has room for its two words
@@ -22,8 +22,8 @@ no_stop false false false h = cc
 
 record Room (sp : ℕ) : Type 0 where
   aligned : sp % 8 ≡ 0
-  first : is_writable (difference32 sp 8) 4 ≡ true
-  second : is_writable (next (difference32 sp 8)) 4 ≡ true
+  first : is_writable (subtract sp 8) 4 ≡ true
+  second : is_writable (next (subtract sp 8)) 4 ≡ true
 
 room : (c : Cpu) → call_stop c ≡ None → Room c.regs.sp
 unfolding call_stop
@@ -41,15 +41,15 @@ room c h =
 
 -- the two words stand right below SP
 record Below (sp : ℕ) : Type 0 where
-  sum : difference32 sp 8 + 8 ≡ sp
-  second : next (difference32 sp 8) ≡ difference32 sp 8 + 4
+  sum : subtract sp 8 + 8 ≡ sp
+  second : next (subtract sp 8) ≡ subtract sp 8 + 4
 
-below : (sp : ℕ) → sp < 4294967296 → is_writable (difference32 sp 8) 4 ≡ true → Below sp
+below : (sp : ℕ) → sp < 4294967296 → is_writable (subtract sp 8) 4 ≡ true → Below sp
 below sp lt can =
     ⊎_elim
     (λ h. record { sum = omega (arith, h.from, h.to); second = omega (arith, h.from, h.to) })
     (λ h. record { sum = omega (arith, h.from, h.to); second = omega (arith, h.from, h.to) })
-    (place (difference32 sp 8) can)
+    (place (subtract sp 8) can)
 
 stop_by : (b0 b1 b2 b3 : Bool) → b0 ≡ true → b1 ≡ true → b2 ≡ true → cond (not b0) (Some stop.BadState) (cond (not b1) (Some stop.Unmapped) (cond (not b2) (Some stop.ReturnFault) (cond (not b3) (Some stop.BadState) None))) ≡ cond b3 None (Some stop.BadState)
 stop_by b0 b1 b2 true p q r = rw (p, q, r) refl
@@ -60,11 +60,11 @@ abbrev pub back_at : ℕ → ℕ → State → State
 back_at sp a s = record s { cpu = record s.cpu { side = Secure; regs = record s.cpu.regs { sp = sp }; pc = a } }
 
 -- a function return right behind a call takes the words of the call
-return_of_call : (back : ℕ) (device : Device) (s : State) → IsWhole s.memory → s.cpu.regs.sp < 4294967296 → back < 4294967296 → call_stop s.cpu ≡ None → return_to device (called back s) ≡ unless (cond (is_in_rom (aligned 2 back)) None (Some stop.BadState)) (called back s) (went (returned (aligned 2 back) (called back s)))
+return_of_call : (back : ℕ) (device : Device) (s : State) → IsWhole s.memory → s.cpu.regs.sp < 4294967296 → back < 4294967296 → call_stop s.cpu ≡ None → return_to device (called back s) ≡ or_stopped (cond (is_in_rom (aligned 2 back)) None (Some stop.BadState)) (called back s) (went (returned (aligned 2 back) (called back s)))
 unfolding return_to return_stop
 return_of_call back device s whole lt_sp lt_back h =
     let sp = s.cpu.regs.sp in
-    let p = difference32 sp 8 in
+    let p = subtract sp 8 in
     let t = called back s in
     let r = room s.cpu h in
     let e = below sp lt_sp r.first in
@@ -78,17 +78,17 @@ return_of_call back device s whole lt_sp lt_back h =
     let two : (is_readable p 4 && is_readable (p + 4) 4) ≡ true = ap (λ b. b && is_readable (p + 4) 4) (readable_where_writable p r.first) ∙ readable_where_writable (p + 4) can2 in
     let low : eqb (load 4 (p + 4) device t.memory % 512) 0 ≡ true = ap (λ x. eqb (x % 512) 0) second in
     let why = stop_by _ _ _ (is_in_rom (aligned 2 (load 4 p device t.memory))) even two low in
-    ap (λ o. unless o t (went (returned (aligned 2 (load 4 p device t.memory)) t))) why
-    ∙ ap (λ x. unless (cond (is_in_rom (aligned 2 x)) None (Some stop.BadState)) t (went (returned (aligned 2 x) t))) first
+    ap (λ o. or_stopped o t (went (returned (aligned 2 (load 4 p device t.memory)) t))) why
+    ∙ ap (λ x. or_stopped (cond (is_in_rom (aligned 2 x)) None (Some stop.BadState)) t (went (returned (aligned 2 x) t))) first
 
 pub call_of_return_out : (back : ℕ) (device : Device) (s : State) → IsWhole s.memory → s.cpu.regs.sp < 4294967296 → back < 4294967296 → call_stop s.cpu ≡ None → is_in_rom (aligned 2 back) ≡ false → only_stopped s (return_to device (called back s)) ≡ stopped stop.BadState s
 call_of_return_out back device s whole lt_sp lt_back h out =
     ap (only_stopped s) (return_of_call back device s whole lt_sp lt_back h)
-    ∙ ap (λ b. only_stopped s (unless (cond b None (Some stop.BadState)) (called back s) (went (returned (aligned 2 back) (called back s))))) out
+    ∙ ap (λ b. only_stopped s (or_stopped (cond b None (Some stop.BadState)) (called back s) (went (returned (aligned 2 back) (called back s))))) out
 
 -- with SP as it was before
 pub call_of_return : (back : ℕ) (device : Device) (s : State) → IsWhole s.memory → s.cpu.regs.sp < 4294967296 → back < 4294967296 → call_stop s.cpu ≡ None → is_in_rom (aligned 2 back) ≡ true → only_stopped s (return_to device (called back s)) ≡ went (back_at s.cpu.regs.sp (aligned 2 back) (called back s))
 call_of_return back device s whole lt_sp lt_back h in_rom =
     ap (only_stopped s) (return_of_call back device s whole lt_sp lt_back h)
-    ∙ ap (λ b. only_stopped s (unless (cond b None (Some stop.BadState)) (called back s) (went (returned (aligned 2 back) (called back s))))) in_rom
+    ∙ ap (λ b. only_stopped s (or_stopped (cond b None (Some stop.BadState)) (called back s) (went (returned (aligned 2 back) (called back s))))) in_rom
     ∙ ap (λ x. went (back_at x (aligned 2 back) (called back s))) (below s.cpu.regs.sp lt_sp (room s.cpu h).first).sum

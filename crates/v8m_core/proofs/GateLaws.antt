@@ -11,8 +11,8 @@ use Rattle.ns_types.specs.Platform.{row, in_row, is_secure, is_nonsecure, is_in_
 use Rattle.ns_types.specs.Memory.{word_at, store, put_number}
 use Rattle.ns_types.specs.Boundary.{function_return, goes_or, goes_of, acted}
 use Rattle.v8m_core.specs.declared.stepped.Stepped.TheVariants as what
-use Rattle.ns_types.specs.Gateway.{fetched, is_gateway, gateway_at}
-use Rattle.v8m_core.specs.Step.{went, stopped, goes_in, seen, entered, handed, return_to, arrived, bxns, turned, turn_of, unless}
+use Rattle.ns_types.specs.Gateway.{fetched, sg_half, is_gateway, gateway_at}
+use Rattle.v8m_core.specs.Step.{went, stopped, goes_in, seen, entered, handed, return_to, arrived, bxns, with_turn, turn_of, or_stopped}
 
 pub word_at_lt : (bytes : List ℕ) (o : ℕ) → word_at bytes o < 4294967296
 unfolding word_at
@@ -40,7 +40,7 @@ store_ns_rom size a v m = choose (in_row 1 a) (record m { ns_ram = put_number si
 -- no gateway stands outside the Non-secure callable region
 no_gateway : (device : Device) (a : ℕ) → is_nonsecure a ≡ true → is_gateway device a ≡ false
 unfolding is_gateway
-no_gateway device a h = let out : lies_in 3 a 4 ≡ false = grind (arith, nat_tests) in ap (λ b. b && (eqb (fetched device a) 59775 && eqb (fetched device (a + 2)) 59775)) out
+no_gateway device a h = let out : lies_in 3 a 4 ≡ false = grind (arith, nat_tests) in ap (λ b. b && (eqb (fetched device a) sg_half && eqb (fetched device (a + 2)) sg_half)) out
 
 -- Non-secure memory is where a turn follows
 pub goes_turn : (device : Device) (a : ℕ) → is_nonsecure a ≡ true → a % 2 ≡ 0 → goes_in device a ≡ goes.Turn
@@ -68,8 +68,8 @@ bxns_hands device v s h even =
     ∙ ap (λ g. arrived device g v (what.Given (seen s.cpu v)) s) (goes_turn device v h even)
 
 -- a turn without items to a gateway enters
-pub turn_enters : (device : Device) (t : Turn) (a : ℕ) (s : State) → t.items ≡ [] → aligned 2 t.target ≡ a → is_gateway device a ≡ true → turn_of device t s ≡ went (entered a (turned t s.memory.ns_ram s))
+pub turn_enters : (device : Device) (t : Turn) (a : ℕ) (s : State) → t.items ≡ [] → aligned 2 t.target ≡ a → is_gateway device a ≡ true → turn_of device t s ≡ went (entered a (with_turn t s.memory.ns_ram s))
 unfolding turn_of
 turn_enters device t a s none e h =
-    ap (λ items. let after = acted items s.memory.ns_ram in unless after.stop (turned t after.ram s) (arrived device (goes_in device t.target) (aligned 2 t.target) what.Went (turned t after.ram s))) none
-    ∙ ap (λ g. arrived device g (aligned 2 t.target) what.Went (turned t s.memory.ns_ram s)) (goes_enter device t.target a e h)
+    ap (λ items. let after = acted items s.memory.ns_ram in or_stopped after.stop (with_turn t after.ram s) (arrived device (goes_in device t.target) (aligned 2 t.target) what.Went (with_turn t after.ram s))) none
+    ∙ ap (λ g. arrived device g (aligned 2 t.target) what.Went (with_turn t s.memory.ns_ram s)) (goes_enter device t.target a e h)

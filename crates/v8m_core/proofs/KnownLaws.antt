@@ -10,7 +10,8 @@ use Rattle.cm_base.specs.declared.stop.Stop.{Stop}
 use Rattle.cm_base.specs.declared.stop.Stop.TheVariants as stop
 use Rattle.ns_types.specs.State.{Device, State}
 use Rattle.v8m_isa.specs.declared.instr.Instr.TheVariants.{Nop}
-use Rattle.v8m_isa.specs.Table.{Decoded, in_range_of}
+use Rattle.v8m_isa.specs.Table.{in_range_of}
+use Rattle.v8m_isa.specs.Decoding.{Decoded}
 use Rattle.v8m_core.specs.declared.decoder.Known.{Known}
 use Rattle.v8m_core.specs.Known.{AreRead, IsAt, IsKnown, NoneAt}
 use Rattle.v8m_core.specs.Step.{act_or, step_of, stopped}

@@ -2,6 +2,7 @@
 use Rattle.std.proofs.Common.{◌≡◌, ℕ, ◌+◌, ◌-◌, ◌<◌, ◌≤◌, ◌⊎◌, Bool, true, false, List, refl, sym, ap, ◌∙◌, subst, ⊎_elim, inl, inr, arith}
 use Rattle.std.specs.Prelude.{◌||◌}
 use Rattle.std.proofs.lemmas.Bool.Decides.{nat_tests}
+use Rattle.cm_base.specs.declared.regions.TheConstants.{NS_RAM, SECURE_DATA, SECURE_CONTROL}
 use Rattle.ns_types.specs.State.{Device, Memory}
 use Rattle.ns_types.specs.Platform.{in_row, lies_in, is_readable, is_writable}
 use Rattle.ns_types.specs.Memory.{IsWhole, word_at, put_word, load, store}
@@ -11,25 +12,25 @@ use Rattle.v8m_core.proofs.Words.{same_word, other_word, length-put_word}
 pub record InNs (a : ℕ) : Type 0 where
   pub secure : (in_row 4 a || in_row 5 a) ≡ false
   pub ns : in_row 1 a ≡ true
-  pub from : 536870912 ≤ a
-  pub to : a + 4 ≤ 537001984
+  pub from : NS_RAM.from ≤ a
+  pub to : a + 4 ≤ NS_RAM.to
 
 pub record InSecure (a : ℕ) : Type 0 where
   pub secure : (in_row 4 a || in_row 5 a) ≡ true
   pub ns : in_row 1 a ≡ false
-  pub from : 805306368 ≤ a
-  pub to : a + 4 ≤ 805412864
+  pub from : SECURE_DATA.from ≤ a
+  pub to : a + 4 ≤ SECURE_CONTROL.to
 
 in_ns : (a : ℕ) → lies_in 1 a 4 ≡ true → InNs a
 in_ns a h =
-    let lo : 536870912 ≤ a = grind (arith, nat_tests) in
-    let hi : a + 4 ≤ 537001984 = grind (arith, nat_tests) in
+    let lo : NS_RAM.from ≤ a = grind (arith, nat_tests) in
+    let hi : a + 4 ≤ NS_RAM.to = grind (arith, nat_tests) in
     record { secure = grind (arith, nat_tests); ns = grind (arith, nat_tests); from = lo; to = hi }
 
 in_secure : (a : ℕ) → (lies_in 4 a 4 || lies_in 5 a 4) ≡ true → InSecure a
 in_secure a h =
-    let lo : 805306368 ≤ a = grind (arith, nat_tests) in
-    let hi : a + 4 ≤ 805412864 = grind (arith, nat_tests) in
+    let lo : SECURE_DATA.from ≤ a = grind (arith, nat_tests) in
+    let hi : a + 4 ≤ SECURE_CONTROL.to = grind (arith, nat_tests) in
     record { secure = grind (arith, nat_tests); ns = grind (arith, nat_tests); from = lo; to = hi }
 
 pick : (a : ℕ) (b d : Bool) → lies_in 1 a 4 ≡ b → (lies_in 4 a 4 || lies_in 5 a 4) ≡ d → (b || d) ≡ true → InNs a ⊎ InSecure a
@@ -40,19 +41,19 @@ pub place : (a : ℕ) → is_writable a 4 ≡ true → InNs a ⊎ InSecure a
 unfolding is_writable
 place a h = pick a _ _ refl refl h
 
-load_ns : (a : ℕ) (device : Device) (m : Memory) → InNs a → load 4 a device m ≡ word_at m.ns_ram (a - 536870912)
+load_ns : (a : ℕ) (device : Device) (m : Memory) → InNs a → load 4 a device m ≡ word_at m.ns_ram (a - NS_RAM.from)
 unfolding load
 load_ns a device m h = rw (h.secure, h.ns) refl
 
-load_secure : (a : ℕ) (device : Device) (m : Memory) → InSecure a → load 4 a device m ≡ word_at m.secure_ram (a - 805306368)
+load_secure : (a : ℕ) (device : Device) (m : Memory) → InSecure a → load 4 a device m ≡ word_at m.secure_ram (a - SECURE_DATA.from)
 unfolding load
 load_secure a device m h = rw h.secure refl
 
-store_ns : (a v : ℕ) (m : Memory) → InNs a → store 4 a v m ≡ record m { ns_ram = put_word m.ns_ram (a - 536870912) v }
+store_ns : (a v : ℕ) (m : Memory) → InNs a → store 4 a v m ≡ record m { ns_ram = put_word m.ns_ram (a - NS_RAM.from) v }
 unfolding store
 store_ns a v m h = rw h.ns refl
 
-store_secure : (a v : ℕ) (m : Memory) → InSecure a → store 4 a v m ≡ record m { secure_ram = put_word m.secure_ram (a - 805306368) v }
+store_secure : (a v : ℕ) (m : Memory) → InSecure a → store 4 a v m ≡ record m { secure_ram = put_word m.secure_ram (a - SECURE_DATA.from) v }
 unfolding store
 store_secure a v m h = rw h.ns refl
 
@@ -60,8 +61,8 @@ store_secure a v m h = rw h.ns refl
 pub load_same : (a v : ℕ) (device : Device) (m : Memory) → IsWhole m → is_writable a 4 ≡ true → v < 4294967296 → load 4 a device (store 4 a v m) ≡ v
 load_same a v device m whole can lt =
     ⊎_elim
-    (λ h. ap (load 4 a device) (store_ns a v m h) ∙ load_ns a device (record m { ns_ram = put_word m.ns_ram (a - 536870912) v }) h ∙ same_word m.ns_ram (a - 536870912) v (omega (arith, h.from, h.to, whole.ns_ram)) lt)
-    (λ h. ap (load 4 a device) (store_secure a v m h) ∙ load_secure a device (record m { secure_ram = put_word m.secure_ram (a - 805306368) v }) h ∙ same_word m.secure_ram (a - 805306368) v (omega (arith, h.from, h.to, whole.secure_ram)) lt)
+    (λ h. ap (load 4 a device) (store_ns a v m h) ∙ load_ns a device (record m { ns_ram = put_word m.ns_ram (a - NS_RAM.from) v }) h ∙ same_word m.ns_ram (a - NS_RAM.from) v (omega (arith, h.from, h.to, whole.ns_ram)) lt)
+    (λ h. ap (load 4 a device) (store_secure a v m h) ∙ load_secure a device (record m { secure_ram = put_word m.secure_ram (a - SECURE_DATA.from) v }) h ∙ same_word m.secure_ram (a - SECURE_DATA.from) v (omega (arith, h.from, h.to, whole.secure_ram)) lt)
     (place a can)
 
 -- another word is as it was
@@ -69,12 +70,12 @@ pub load_other : (a b v : ℕ) (device : Device) (m : Memory) → is_writable a 
 load_other a b v device m can_a can_b apart =
     ⊎_elim
     (λ h. ⊎_elim
-    (λ k. ap (load 4 a device) (store_ns b v m k) ∙ load_ns a device (record m { ns_ram = put_word m.ns_ram (b - 536870912) v }) h ∙ other_word m.ns_ram (b - 536870912) (a - 536870912) v (less a b 536870912 h.from k.from apart) ∙ sym (load_ns a device m h))
-    (λ k. ap (load 4 a device) (store_secure b v m k) ∙ load_ns a device (record m { secure_ram = put_word m.secure_ram (b - 805306368) v }) h ∙ sym (load_ns a device m h))
+    (λ k. ap (load 4 a device) (store_ns b v m k) ∙ load_ns a device (record m { ns_ram = put_word m.ns_ram (b - NS_RAM.from) v }) h ∙ other_word m.ns_ram (b - NS_RAM.from) (a - NS_RAM.from) v (less a b NS_RAM.from h.from k.from apart) ∙ sym (load_ns a device m h))
+    (λ k. ap (load 4 a device) (store_secure b v m k) ∙ load_ns a device (record m { secure_ram = put_word m.secure_ram (b - SECURE_DATA.from) v }) h ∙ sym (load_ns a device m h))
     (place b can_b))
     (λ h. ⊎_elim
-    (λ k. ap (load 4 a device) (store_ns b v m k) ∙ load_secure a device (record m { ns_ram = put_word m.ns_ram (b - 536870912) v }) h ∙ sym (load_secure a device m h))
-    (λ k. ap (load 4 a device) (store_secure b v m k) ∙ load_secure a device (record m { secure_ram = put_word m.secure_ram (b - 805306368) v }) h ∙ other_word m.secure_ram (b - 805306368) (a - 805306368) v (less a b 805306368 h.from k.from apart) ∙ sym (load_secure a device m h))
+    (λ k. ap (load 4 a device) (store_ns b v m k) ∙ load_secure a device (record m { ns_ram = put_word m.ns_ram (b - NS_RAM.from) v }) h ∙ sym (load_secure a device m h))
+    (λ k. ap (load 4 a device) (store_secure b v m k) ∙ load_secure a device (record m { secure_ram = put_word m.secure_ram (b - SECURE_DATA.from) v }) h ∙ other_word m.secure_ram (b - SECURE_DATA.from) (a - SECURE_DATA.from) v (less a b SECURE_DATA.from h.from k.from apart) ∙ sym (load_secure a device m h))
     (place b can_b))
     (place a can_a)
   where
@@ -97,6 +98,6 @@ readable_where_writable a h = or_more (lies_in 0 a 4) (lies_in 1 a 4) (lies_in 2
 pub whole_store : (a v : ℕ) (m : Memory) → IsWhole m → is_writable a 4 ≡ true → IsWhole (store 4 a v m)
 whole_store a v m whole can =
     ⊎_elim
-    (λ h. subst IsWhole (sym (store_ns a v m h)) (record { ns_rom = whole.ns_rom; ns_ram = length-put_word m.ns_ram (a - 536870912) v ∙ whole.ns_ram; secure_ram = whole.secure_ram }))
-    (λ h. subst IsWhole (sym (store_secure a v m h)) (record { ns_rom = whole.ns_rom; ns_ram = whole.ns_ram; secure_ram = length-put_word m.secure_ram (a - 805306368) v ∙ whole.secure_ram }))
+    (λ h. subst IsWhole (sym (store_ns a v m h)) (record { ns_rom = whole.ns_rom; ns_ram = length-put_word m.ns_ram (a - NS_RAM.from) v ∙ whole.ns_ram; secure_ram = whole.secure_ram }))
+    (λ h. subst IsWhole (sym (store_secure a v m h)) (record { ns_rom = whole.ns_rom; ns_ram = whole.ns_ram; secure_ram = length-put_word m.secure_ram (a - SECURE_DATA.from) v ∙ whole.secure_ram }))
     (place a can)

@@ -4,8 +4,9 @@ use Rattle.std.specs.Prelude.{eqb}
 use Rattle.cm_base.specs.declared.stop.Stop.{Stop}
 use Rattle.cm_base.specs.declared.stop.Stop.TheVariants as stop
 use Rattle.v8m_isa.specs.declared.instr.Instr.{Instr}
-use Rattle.v8m_isa.specs.Table.{Decoded, in_range_of, size_of, code_of, decode_of, is_narrow}
-use Rattle.v8m_isa.proofs.Laws.{decode_of-code_of, decode_of-code_of_narrow, is_narrow-code_of, size_of_two_or_four}
+use Rattle.v8m_isa.specs.Table.{in_range_of, size_of, code_of}
+use Rattle.v8m_isa.specs.Decoding.{Decoded, decode_of, is_narrow}
+use Rattle.v8m_isa.proofs.DecodingLaws.{decode_of-code_of, decode_of-code_of_narrow, is_narrow-code_of, size_of_two_or_four}
 use Rattle.ns_types.specs.declared.goes.Goes.{Goes}
 use Rattle.ns_types.specs.declared.goes.Goes.TheVariants as goes
 use Rattle.ns_types.specs.declared.state.Cpu.{Cpu}
@@ -17,7 +18,7 @@ use Rattle.v8m_core.specs.declared.stepped.Stepped.TheVariants as what
 use Rattle.v8m_core.specs.declared.effect.Effect.{Effect}
 use Rattle.v8m_core.specs.declared.effect.Effect.TheVariants as effect
 use Rattle.ns_types.specs.Gateway.{fetched}
-use Rattle.v8m_core.specs.Step.{Done, went, stopped, unless, goes_in, seen, arrived, return_stop, return_to, bx, bxns, limit_stop, link, call_stop, called, only_stopped_by, blxns, effect_of, pass, write_register, load_stop, store_stop, push_stop, pop_stop, pushed, popped, special, apply, act, act_or, step_of}
+use Rattle.v8m_core.specs.Step.{Done, went, stopped, or_stopped, goes_in, seen, arrived, return_stop, return_to, bx, bxns, limit_stop, link, call_stop, called, only_stopped_by, blxns, effect_of, pass, write_register, load_stop, store_stop, push_stop, pop_stop, pushed, popped, special, apply, act, act_or, step_of}
 use Rattle.v8m_core.specs.Code.{Holds, HasCode, past, Comes, Does}
 
 -- decoding what was encoded
@@ -88,9 +89,9 @@ stays_stopped x s = record { side = λ e. cc }
 stays_went : (s : State) → s.cpu.side ≡ Secure → Stays (went s)
 stays_went s h = record { side = λ e. h }
 
-stays_unless : (o : Option Stop) (s : State) (d : Done) → Stays d → Stays (unless o s d)
-stays_unless None s d h = h
-stays_unless (Some x) s d h = stays_stopped x s
+stays_or_stopped : (o : Option Stop) (s : State) (d : Done) → Stays d → Stays (or_stopped o s d)
+stays_or_stopped None s d h = h
+stays_or_stopped (Some x) s d h = stays_stopped x s
 
 stays_cond : (b : Bool) (d e : Done) → Stays d → Stays e → Stays (cond b d e)
 stays_cond true d e x y = x
@@ -98,7 +99,7 @@ stays_cond false d e x y = y
 
 stays_return : (device : Device) (s : State) → Stays (return_to device s)
 unfolding return_to
-stays_return device s = stays_unless (return_stop device s) s _ (stays_went _ refl)
+stays_return device s = stays_or_stopped (return_stop device s) s _ (stays_went _ refl)
 
 stays_arrived : (device : Device) (g : Goes) (a : ℕ) (show : Stepped) (s : State) → show ≢ what.Went → Stays (arrived device g a show s)
 stays_arrived device (goes.Enter e) a show s ne = stays_went _ refl
@@ -129,7 +130,7 @@ unfolding blxns
 stays_blxns device v size s h =
     let t = called (link size s.cpu) s in
     stays_cond _ _ _
-    (stays_unless (call_stop s.cpu) s _ (stays_only _ s _ (stays_arrived device (goes_in device v) v (what.Given (seen t.cpu v)) t (λ e. cc))))
+    (stays_or_stopped (call_stop s.cpu) s _ (stays_only _ s _ (stays_arrived device (goes_in device v) v (what.Given (seen t.cpu v)) t (λ e. cc))))
     (stays_cond _ _ _ (stays_went _ h) (stays_stopped stop.BadState s))
 
 record IsSecure (c : Cpu) : Type 0 where
@@ -151,12 +152,12 @@ stays_apply : (device : Device) (e : Effect) (size : ℕ) (s : State) → s.cpu.
 unfolding apply write_register pushed popped
 stays_apply device effect.Pass size s h = stays_went _ h
 stays_apply device (effect.Stop x) size s h = stays_stopped x s
-stays_apply device (effect.Put d v) size s h = stays_cond _ _ _ (stays_unless (limit_stop v s.cpu) s _ (stays_went _ h)) (stays_went _ h)
-stays_apply device (effect.Load t a n) size s h = stays_unless (load_stop a n) s _ (stays_went _ h)
-stays_apply device (effect.LoadSigned t a n) size s h = stays_unless (load_stop a n) s _ (stays_went _ h)
-stays_apply device (effect.Store a n v) size s h = stays_unless (store_stop a n) s _ (record { side = λ e. h })
-stays_apply device (effect.Push list) size s h = stays_unless (push_stop list s.cpu) s _ (stays_went _ h)
-stays_apply device (effect.Pop list) size s h = stays_unless (pop_stop list s.cpu) s _ (stays_went _ h)
+stays_apply device (effect.Put d v) size s h = stays_cond _ _ _ (stays_or_stopped (limit_stop v s.cpu) s _ (stays_went _ h)) (stays_went _ h)
+stays_apply device (effect.Load t a n) size s h = stays_or_stopped (load_stop a n) s _ (stays_went _ h)
+stays_apply device (effect.LoadSigned t a n) size s h = stays_or_stopped (load_stop a n) s _ (stays_went _ h)
+stays_apply device (effect.Store a n v) size s h = stays_or_stopped (store_stop a n) s _ (record { side = λ e. h })
+stays_apply device (effect.Push list) size s h = stays_or_stopped (push_stop list s.cpu) s _ (stays_went _ h)
+stays_apply device (effect.Pop list) size s h = stays_or_stopped (pop_stop list s.cpu) s _ (stays_went _ h)
 stays_apply device (effect.Flags flags) size s h = stays_went _ h
 stays_apply device (effect.Jump a) size s h = stays_went _ h
 stays_apply device (effect.Call a) size s h = stays_went _ h

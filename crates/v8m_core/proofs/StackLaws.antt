@@ -3,9 +3,10 @@ use Rattle.std.proofs.Common.{◌≡◌, ℕ, ◌+◌, ◌%◌, ◌≤◌, Bool,
 use Rattle.std.specs.Prelude.{eqb, ltb, not, ◌&&◌}
 use Rattle.std.proofs.lemmas.Bool.Decides.{nat_tests}
 use Rattle.cm_base.specs.declared.stop.Stop.TheVariants as stop
+use Rattle.cm_base.specs.declared.regions.TheConstants.{SECURE_DATA, SECURE_CONTROL}
 use Rattle.ns_types.specs.declared.state.Cpu.{Cpu}
 use Rattle.ns_types.specs.Platform.{is_readable, is_writable, aligned}
-use Rattle.v8m_core.specs.Values.{difference32, sum32}
+use Rattle.ns_types.specs.Operators.{subtract, add}
 use Rattle.v8m_core.specs.Lists.{registers, in_list, next, bytes_of, all_writable, all_readable}
 use Rattle.v8m_core.specs.Step.{or_stop, push_stop, pop_stop, call_stop}
 use Rattle.v8m_core.proofs.Ram.{readable_where_writable}
@@ -13,8 +14,8 @@ use Rattle.v8m_core.proofs.Ram.{readable_where_writable}
 -- a word at a multiple of 4 in Secure RAM
 pub record IsWord (a : ℕ) : Type 0 where
   pub even : a % 4 ≡ 0
-  pub from : 805306368 ≤ a
-  pub to : a + 4 ≤ 805412864
+  pub from : SECURE_DATA.from ≤ a
+  pub to : a + 4 ≤ SECURE_CONTROL.to
 
 pub word_writable : (a : ℕ) → IsWord a → is_writable a 4 ≡ true
 unfolding is_writable
@@ -27,8 +28,8 @@ word_writable a h =
 -- the words of a list from an address on
 pub record AreWords (a bytes : ℕ) : Type 0 where
   pub even : a % 4 ≡ 0
-  pub from : 805306368 ≤ a
-  pub to : a + bytes ≤ 805412864
+  pub from : SECURE_DATA.from ≤ a
+  pub to : a + bytes ≤ SECURE_CONTROL.to
 
 -- a register of the list takes the first word, and another one none
 first_writable : (b : Bool) (a k : ℕ) (rest : ℕ → Bool) → AreWords a (cond b 4 0 + k) → ((x : ℕ) → AreWords x k → rest x ≡ true) → cond b (is_writable a 4 && rest (next a)) (rest a) ≡ true
@@ -85,19 +86,19 @@ push_goes list sp c e limit w =
     let to = w.to in
     let even = w.even in
     let multiple = bytes_even list registers in
-    let at : difference32 c.regs.sp (bytes_of list registers) ≡ sp = omega (arith, e, w.to) in
-    let high : c.msplim ≤ aligned 4 (difference32 c.regs.sp (bytes_of list registers)) = omega (arith, at, w.even, limit) in
+    let at : subtract c.regs.sp (bytes_of list registers) ≡ sp = omega (arith, e, w.to) in
+    let high : c.msplim ≤ aligned 4 (subtract c.regs.sp (bytes_of list registers)) = omega (arith, at, w.even, limit) in
     let whole : c.regs.sp % 4 ≡ 0 = omega (arith, e, w.even, bytes_even list registers) in
-    none _ _ _ (let t : ltb (aligned 4 (difference32 c.regs.sp (bytes_of list registers))) c.msplim ≡ false = grind (arith, nat_tests) in t)
+    none _ _ _ (let t : ltb (aligned 4 (subtract c.regs.sp (bytes_of list registers))) c.msplim ≡ false = grind (arith, nat_tests) in t)
     (let t : eqb (c.regs.sp % 4) 0 ≡ true = grind (arith, nat_tests) in t)
     (ap (all_writable list registers) at ∙ list_writable list registers sp w)
 
 pub pop_goes : (list : ℕ) (c : Cpu) → c.msplim ≤ c.regs.sp → AreWords c.regs.sp (bytes_of list registers) → pop_stop list c ≡ None
 unfolding pop_stop
 pop_goes list c limit w =
-    let high : c.msplim ≤ aligned 4 (sum32 c.regs.sp (bytes_of list registers)) = omega (arith, w.even, w.to, bytes_even list registers, limit) in
+    let high : c.msplim ≤ aligned 4 (add c.regs.sp (bytes_of list registers)) = omega (arith, w.even, w.to, bytes_even list registers, limit) in
     let whole = w.even in
-    none _ _ _ (let t : ltb (aligned 4 (sum32 c.regs.sp (bytes_of list registers))) c.msplim ≡ false = grind (arith, nat_tests) in t)
+    none _ _ _ (let t : ltb (aligned 4 (add c.regs.sp (bytes_of list registers))) c.msplim ≡ false = grind (arith, nat_tests) in t)
     (let t : eqb (c.regs.sp % 4) 0 ≡ true = grind (arith, nat_tests) in t)
     (list_readable list registers c.regs.sp w)
 
@@ -107,13 +108,13 @@ none_of_call b1 b2 b3 p q r = rw (p, q, r) refl
 pub call_goes : (sp : ℕ) (c : Cpu) → c.regs.sp ≡ sp + 8 → sp % 8 ≡ 0 → c.msplim ≤ sp → AreWords sp 8 → call_stop c ≡ None
 unfolding call_stop
 call_goes sp c e even limit w =
-    let at : difference32 c.regs.sp 8 ≡ sp = omega (arith, e, w.to) in
-    let high : c.msplim ≤ aligned 4 (difference32 c.regs.sp 8) = omega (arith, at, w.even, limit) in
+    let at : subtract c.regs.sp 8 ≡ sp = omega (arith, e, w.to) in
+    let high : c.msplim ≤ aligned 4 (subtract c.regs.sp 8) = omega (arith, at, w.even, limit) in
     let whole : c.regs.sp % 8 ≡ 0 = omega (arith, e, even) in
-    let second : next (difference32 c.regs.sp 8) ≡ sp + 4 = omega (arith, at, w.to) in
+    let second : next (subtract c.regs.sp 8) ≡ sp + 4 = omega (arith, at, w.to) in
     none_of_call _ _ _ (let t : eqb (c.regs.sp % 8) 0 ≡ true = grind (arith, nat_tests) in t)
-    (let t : ltb (aligned 4 (difference32 c.regs.sp 8)) c.msplim ≡ false = grind (arith, nat_tests) in t)
-    (ap (λ x. is_writable x 4 && is_writable (next (difference32 c.regs.sp 8)) 4) at
-    ∙ ap (λ b. b && is_writable (next (difference32 c.regs.sp 8)) 4) (word_writable sp (record { even = w.even; from = w.from; to = omega (arith, w.to) }))
+    (let t : ltb (aligned 4 (subtract c.regs.sp 8)) c.msplim ≡ false = grind (arith, nat_tests) in t)
+    (ap (λ x. is_writable x 4 && is_writable (next (subtract c.regs.sp 8)) 4) at
+    ∙ ap (λ b. b && is_writable (next (subtract c.regs.sp 8)) 4) (word_writable sp (record { even = w.even; from = w.from; to = omega (arith, w.to) }))
     ∙ ap (λ x. is_writable x 4) second
     ∙ word_writable (sp + 4) (record { even = omega (arith, w.even); from = omega (arith, w.from); to = omega (arith, w.to) }))

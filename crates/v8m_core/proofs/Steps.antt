@@ -2,7 +2,7 @@
 use Rattle.std.proofs.Common.{◌≡◌, ◌+◌, ℕ, true, false, List, refl, sym, ap, Option, Some, None}
 use Rattle.std.specs.Prelude.{option_map}
 use Rattle.v8m_isa.specs.declared.instr.Instr.{Instr}
-use Rattle.v8m_isa.specs.Table.{Decoded, decode_of, is_narrow, pair_of}
+use Rattle.v8m_isa.specs.Decoding.{Decoded, decode_of, is_narrow, pair_of}
 use Rattle.ns_types.specs.State.{Device, State}
 use Rattle.ns_types.specs.Platform.{is_in_rom}
 use Rattle.cm_base.specs.declared.stop.Stop.TheVariants as stop

@@ -1,5 +1,5 @@
 -- Code in Secure ROM, and runs of it.
-use Rattle.std.specs.Prelude.{◌≡◌, ℕ, zero, suc, ◌+◌, ◌/◌, ◌%◌, ◌++◌, cond, ◌⊎◌, true, List, [], ◌∷◌, eqb}
+use Rattle.std.specs.Prelude.{◌≡◌, ℕ, zero, suc, ◌+◌, ◌⊎◌, true, List, [], ◌∷◌}
 use Rattle.v8m_isa.specs.declared.instr.Instr.{Instr}
 use Rattle.v8m_isa.specs.Table.{in_range_of, size_of, code_of}
 use Rattle.ns_types.specs.State.{Device, State}
@@ -23,21 +23,6 @@ HasCode device pc (i ∷ is) = Holds device pc i × HasCode device (pc + size_of
 abbrev pub past : ℕ → List Instr → ℕ
 past pc [] = pc
 past pc (i ∷ is) = past (pc + size_of i) is
-
--- the bytes of code, little endian
-abbrev pub two : ℕ → List ℕ
-two h = h % 256 ∷ h / 256 % 256 ∷ []
-
-abbrev pub instr_bytes : Instr → List ℕ
-instr_bytes i = cond (eqb (size_of i) 2) (two (code_of i).first) (two (code_of i).first ++ two (code_of i).second)
-
-abbrev pub code_bytes : List Instr → List ℕ
-code_bytes [] = []
-code_bytes (i ∷ is) = instr_bytes i ++ code_bytes is
-
-abbrev pub AllInRange : List Instr → Type 0
-AllInRange [] = Unit {0}
-AllInRange (i ∷ is) = (in_range_of i ≡ true) × AllInRange is
 
 -- from s, after exactly n steps that only go on, to t
 abbrev pub Comes : Device → ℕ → State → State → Type 0

@@ -9,7 +9,8 @@ use Rattle.ns_types.specs.State.{get_of}
 use Rattle.v8m_mem.specs.Target.{target_of}
 use Rattle.v8m_core.specs.declared.effect.Effect.{Effect}
 use Rattle.v8m_core.specs.declared.effect.Effect.TheVariants as effect
-use Rattle.v8m_core.specs.Values.{sum32, difference32, product32, inverted, signed_byte, signed_half, shifted_left, shifted_right, shifted_with_sign, quotient, signed_quotient, compared, condition_holds}
+use Rattle.ns_types.specs.Operators.{add, subtract, multiply, complement, low_bytes, to_unsigned, to_signed}
+use Rattle.v8m_core.specs.Values.{shifted_left, shifted_right, shifted_with_sign, quotient, signed_quotient, compared, condition_holds}
 
 -- the effect of a group that has the instruction, or another
 abbrev pub effect_or : Option Effect → Effect → Effect
@@ -22,23 +23,23 @@ moved Nop c = Some effect.Pass
 moved Sg c = Some effect.Pass
 moved (Mov d m) c = Some (effect.Put d (get_of c.regs m))
 moved (Movw d i) c = Some (effect.Put d i)
-moved (Movt d i) c = Some (effect.Put d (65536 * i + get_of c.regs d % 65536))
-moved (Sxtb d m) c = Some (effect.Put d (signed_byte (get_of c.regs m % 256)))
-moved (Sxth d m) c = Some (effect.Put d (signed_half (get_of c.regs m % 65536)))
-moved (Uxtb d m) c = Some (effect.Put d (get_of c.regs m % 256))
-moved (Uxth d m) c = Some (effect.Put d (get_of c.regs m % 65536))
+moved (Movt d i) c = Some (effect.Put d (65536 * i + low_bytes 2 (get_of c.regs d)))
+moved (Sxtb d m) c = Some (effect.Put d (to_signed 1 (get_of c.regs m)))
+moved (Sxth d m) c = Some (effect.Put d (to_signed 2 (get_of c.regs m)))
+moved (Uxtb d m) c = Some (effect.Put d (to_unsigned 1 (get_of c.regs m)))
+moved (Uxth d m) c = Some (effect.Put d (to_unsigned 2 (get_of c.regs m)))
 moved _ c = None
 
 -- arithmetic
 abbrev pub computed : Instr → Cpu → Option Effect
-computed (Addw d n i) c = Some (effect.Put d (sum32 (get_of c.regs n) i))
-computed (Subw d n i) c = Some (effect.Put d (difference32 (get_of c.regs n) i))
-computed (Add d n m) c = Some (effect.Put d (sum32 (get_of c.regs n) (get_of c.regs m)))
-computed (Sub d n m) c = Some (effect.Put d (difference32 (get_of c.regs n) (get_of c.regs m)))
-computed (Rsb d n m) c = Some (effect.Put d (difference32 (get_of c.regs m) (get_of c.regs n)))
+computed (Addw d n i) c = Some (effect.Put d (add (get_of c.regs n) i))
+computed (Subw d n i) c = Some (effect.Put d (subtract (get_of c.regs n) i))
+computed (Add d n m) c = Some (effect.Put d (add (get_of c.regs n) (get_of c.regs m)))
+computed (Sub d n m) c = Some (effect.Put d (subtract (get_of c.regs n) (get_of c.regs m)))
+computed (Rsb d n m) c = Some (effect.Put d (subtract (get_of c.regs m) (get_of c.regs n)))
 computed (Cmp n m) c = Some (effect.Flags (compared (get_of c.regs n) (get_of c.regs m) c.nzcvq))
-computed (Mul d n m) c = Some (effect.Put d (product32 (get_of c.regs n) (get_of c.regs m)))
-computed (Mls d n m a) c = Some (effect.Put d (difference32 (get_of c.regs a) (product32 (get_of c.regs n) (get_of c.regs m))))
+computed (Mul d n m) c = Some (effect.Put d (multiply (get_of c.regs n) (get_of c.regs m)))
+computed (Mls d n m a) c = Some (effect.Put d (subtract (get_of c.regs a) (multiply (get_of c.regs n) (get_of c.regs m))))
 computed (Sdiv d n m) c = Some (effect.Put d (signed_quotient (get_of c.regs n) (get_of c.regs m)))
 computed (Udiv d n m) c = Some (effect.Put d (quotient (get_of c.regs n) (get_of c.regs m)))
 computed _ c = None
@@ -46,10 +47,10 @@ computed _ c = None
 -- bits, and shifts by the low byte of m
 abbrev pub bitwise : Instr → Cpu → Option Effect
 bitwise (And d n m) c = Some (effect.Put d (bit_and (get_of c.regs n) (get_of c.regs m)))
-bitwise (Bic d n m) c = Some (effect.Put d (bit_and (get_of c.regs n) (inverted (get_of c.regs m))))
+bitwise (Bic d n m) c = Some (effect.Put d (bit_and (get_of c.regs n) (complement (get_of c.regs m))))
 bitwise (Orr d n m) c = Some (effect.Put d (bit_or (get_of c.regs n) (get_of c.regs m)))
 bitwise (Eor d n m) c = Some (effect.Put d (bit_xor (get_of c.regs n) (get_of c.regs m)))
-bitwise (Mvn d m) c = Some (effect.Put d (inverted (get_of c.regs m)))
+bitwise (Mvn d m) c = Some (effect.Put d (complement (get_of c.regs m)))
 bitwise (Lsl d n m) c = Some (effect.Put d (shifted_left (get_of c.regs n) (get_of c.regs m % 256)))
 bitwise (Lsr d n m) c = Some (effect.Put d (shifted_right (get_of c.regs n) (get_of c.regs m % 256)))
 bitwise (Asr d n m) c = Some (effect.Put d (shifted_with_sign (get_of c.regs n) (get_of c.regs m % 256)))
@@ -57,14 +58,14 @@ bitwise _ c = None
 
 -- loads and stores
 abbrev pub accessed : Instr → Cpu → Option Effect
-accessed (Ldr t n i) c = Some (effect.Load t (sum32 (get_of c.regs n) i) 4)
-accessed (Ldrb t n i) c = Some (effect.Load t (sum32 (get_of c.regs n) i) 1)
-accessed (Ldrh t n i) c = Some (effect.Load t (sum32 (get_of c.regs n) i) 2)
-accessed (Ldrsb t n i) c = Some (effect.LoadSigned t (sum32 (get_of c.regs n) i) 1)
-accessed (Ldrsh t n i) c = Some (effect.LoadSigned t (sum32 (get_of c.regs n) i) 2)
-accessed (Str t n i) c = Some (effect.Store (sum32 (get_of c.regs n) i) 4 (get_of c.regs t))
-accessed (Strb t n i) c = Some (effect.Store (sum32 (get_of c.regs n) i) 1 (get_of c.regs t % 256))
-accessed (Strh t n i) c = Some (effect.Store (sum32 (get_of c.regs n) i) 2 (get_of c.regs t % 65536))
+accessed (Ldr t n i) c = Some (effect.Load t (add (get_of c.regs n) i) 4)
+accessed (Ldrb t n i) c = Some (effect.Load t (add (get_of c.regs n) i) 1)
+accessed (Ldrh t n i) c = Some (effect.Load t (add (get_of c.regs n) i) 2)
+accessed (Ldrsb t n i) c = Some (effect.LoadSigned t (add (get_of c.regs n) i) 1)
+accessed (Ldrsh t n i) c = Some (effect.LoadSigned t (add (get_of c.regs n) i) 2)
+accessed (Str t n i) c = Some (effect.Store (add (get_of c.regs n) i) 4 (get_of c.regs t))
+accessed (Strb t n i) c = Some (effect.Store (add (get_of c.regs n) i) 1 (low_bytes 1 (get_of c.regs t)))
+accessed (Strh t n i) c = Some (effect.Store (add (get_of c.regs n) i) 2 (low_bytes 2 (get_of c.regs t)))
 accessed (Stmdb list) c = Some (effect.Push list)
 accessed (Ldmia list) c = Some (effect.Pop list)
 accessed _ c = None
@@ -80,9 +81,9 @@ branched (Bx m) c = Some (effect.Bx (get_of c.regs m))
 branched (Bxns m) c = Some (effect.Bxns (get_of c.regs m))
 branched (Blxns m) c = Some (effect.Blxns (get_of c.regs m))
 branched (Udf i) c = Some (effect.Stop (udf_stop i))
-branched (B off) c = Some (effect.Jump (sum32 (c.pc + 4) off))
-branched (Bl off) c = Some (effect.Call (sum32 (c.pc + 4) off))
-branched (Bc condition off) c = Some (cond (condition_holds condition c.nzcvq) (effect.Jump (sum32 (c.pc + 4) off)) effect.Pass)
+branched (B off) c = Some (effect.Jump (add (c.pc + 4) off))
+branched (Bl off) c = Some (effect.Call (add (c.pc + 4) off))
+branched (Bc condition off) c = Some (cond (condition_holds condition c.nzcvq) (effect.Jump (add (c.pc + 4) off)) effect.Pass)
 branched _ c = None
 
 -- a special register by its number in MRS

@@ -4,20 +4,21 @@ use Rattle.ns_types.specs.declared.state.Regs.{Regs}
 use Rattle.ns_types.specs.State.{Device, get_of, set_of, Memory}
 use Rattle.ns_types.specs.Platform.{is_readable, is_writable}
 use Rattle.ns_types.specs.Memory.{load, store}
+use Rattle.ns_types.specs.Operators.{add}
 
--- the registers that a list may have
+-- the numbers of the registers that a list may have
 abbrev pub registers : List ℕ
 registers = 0 ∷ 1 ∷ 2 ∷ 3 ∷ 4 ∷ 5 ∷ 6 ∷ 7 ∷ 8 ∷ 9 ∷ 10 ∷ 11 ∷ 12 ∷ 14 ∷ []
 
-abbrev pub is_register : ℕ → Bool
-is_register n = ltb n 15
+abbrev pub is_register_number : ℕ → Bool
+is_register_number n = ltb n 15
 
 abbrev pub in_list : ℕ → ℕ → Bool
 in_list list n = eqb (list / 2 ^ n % 2) 1
 
 -- the address of the next word
 abbrev pub next : ℕ → ℕ
-next a = (a + 4) % 4294967296
+next a = add a 4
 
 -- Of the registers that are given: how many bytes those of a list take, whether each of their words from an address on
 -- can be written or read, memory with them stored there, and the registers with them loaded.

@@ -3,7 +3,7 @@ use Rattle.std.specs.Prelude.{ℕ, ◌+◌, ◌-◌, ◌/◌, ◌%◌, Bool, con
 use Rattle.cm_base.specs.declared.stop.Stop.{Stop}
 use Rattle.cm_base.specs.declared.stop.Stop.TheVariants as stop
 use Rattle.v8m_isa.specs.declared.instr.Instr.{Instr}
-use Rattle.v8m_isa.specs.Table.{Decoded, decode_of, is_narrow}
+use Rattle.v8m_isa.specs.Decoding.{Decoded, decode_of, is_narrow}
 use Rattle.ns_types.specs.declared.goes.Goes.{Goes}
 use Rattle.ns_types.specs.declared.goes.Goes.TheVariants as goes
 use Rattle.ns_types.specs.declared.state.Cpu.{Cpu}
@@ -15,7 +15,7 @@ use Rattle.ns_types.specs.Platform.{row, in_row, lies_in, is_readable, is_writab
 use Rattle.ns_types.specs.Memory.{half_at, load, store}
 use Rattle.ns_types.specs.Gateway.{fetched, gateway_at}
 use Rattle.ns_types.specs.Boundary.{function_return, goes_of, acted}
-use Rattle.v8m_core.specs.Values.{sum32, difference32, signed_byte, signed_half}
+use Rattle.ns_types.specs.Operators.{add, subtract, to_signed}
 use Rattle.v8m_core.specs.Effects.{effect_or, moved, computed, bitwise, accessed, branched, named}
 use Rattle.v8m_core.specs.Lists.{registers, next, bytes_of, all_writable, all_readable, all_stored, all_loaded}
 use Rattle.v8m_core.specs.declared.stepped.Stepped.{Stepped}
@@ -35,9 +35,9 @@ went s = record { state = s; what = what.Went }
 abbrev pub stopped : Stop → State → Done
 stopped x s = record { state = record s { cpu = record s.cpu { side = Stopped x } }; what = what.Stopped x }
 
-abbrev pub unless : Option Stop → State → Done → Done
-unless None s d = d
-unless (Some x) s d = stopped x s
+abbrev pub or_stopped : Option Stop → State → Done → Done
+or_stopped None s d = d
+or_stopped (Some x) s d = stopped x s
 
 -- the first of two stops
 abbrev pub or_stop : Option Stop → Option Stop → Option Stop
@@ -88,7 +88,7 @@ return_stop device s =
     (cond (not (is_in_rom (aligned 2 (load 4 sp device s.memory)))) (Some stop.BadState) None)))
 
 unfoldable pub return_to : Device → State → Done
-return_to device s = unless (return_stop device s) s (went (returned (aligned 2 (load 4 s.cpu.regs.sp device s.memory)) s))
+return_to device s = or_stopped (return_stop device s) s (went (returned (aligned 2 (load 4 s.cpu.regs.sp device s.memory)) s))
 
 -- A branch in Non-secure state, or from Secure to Non-secure state, to an address: show says what a hand-over is.
 abbrev pub arrived : Device → Goes → ℕ → Stepped → State → Done
@@ -122,7 +122,7 @@ link size c = aligned 2 (c.pc + size) + 1
 -- Why a call of Non-secure code stops, if it does, in the order of its tests: SP, its limit, the two words.
 unfoldable pub call_stop : Cpu → Option Stop
 call_stop c =
-    let sp = difference32 c.regs.sp 8 in
+    let sp = subtract c.regs.sp 8 in
     cond (not (eqb (c.regs.sp % 8) 0)) (Some stop.BadState)
     (or_stop (limit_stop sp c) (cond (is_writable sp 4 && is_writable (next sp) 4) None (Some stop.Unmapped)))
 
@@ -130,7 +130,7 @@ call_stop c =
 -- return address with bit 0 set.
 abbrev pub called : ℕ → State → State
 called back s =
-    let sp = difference32 s.cpu.regs.sp 8 in
+    let sp = subtract s.cpu.regs.sp 8 in
     record { cpu = record s.cpu { regs = record s.cpu.regs { sp = sp; lr = function_return + 1 } }; memory = store 4 (next sp) 0 (store 4 sp back s.memory) }
 
 -- a step that stops changes nothing of the state before it but the side
@@ -149,7 +149,7 @@ called_at device v t = arrived device (goes_in device v) v (what.Given (seen t.c
 unfoldable pub blxns : Device → ℕ → ℕ → State → Done
 blxns device v size s =
     cond (eqb (v % 2) 0)
-    (unless (call_stop s.cpu) s (only_stopped s (called_at device v (called (link size s.cpu) s))))
+    (or_stopped (call_stop s.cpu) s (only_stopped s (called_at device v (called (link size s.cpu) s))))
     (cond (is_in_rom (v - 1)) (went (record s { cpu = record s.cpu { regs = record s.cpu.regs { lr = link size s.cpu }; pc = v - 1 } })) (stopped stop.BadState s))
 
 -- What each instruction does
@@ -167,7 +167,7 @@ put size d v s = record s { cpu = record s.cpu { regs = set_of s.cpu.regs d v; p
 
 -- a write of a register; SP (register 13) loses its low two bits, and may not go below MSPLIM
 unfoldable pub write_register : ℕ → ℕ → ℕ → State → Done
-write_register size d v s = cond (eqb d 13) (unless (limit_stop v s.cpu) s (went (put size 13 (aligned 4 v) s))) (went (put size d v s))
+write_register size d v s = cond (eqb d 13) (or_stopped (limit_stop v s.cpu) s (went (put size 13 (aligned 4 v) s))) (went (put size d v s))
 
 -- why a load and a store of Secure code stop, if they do
 unfoldable pub load_stop : ℕ → ℕ → Option Stop
@@ -183,16 +183,12 @@ stored step a size v s = record {
   what = cond (in_row 1 a) (what.Wrote a size v) what.Went;
 }
 
--- a number of 1 or 2 bytes with its sign
-abbrev pub signed : ℕ → ℕ → ℕ
-signed size v = cond (eqb size 1) (signed_byte v) (signed_half v)
-
 -- the new SP of a push and of a pop
 abbrev pub pushed_sp : ℕ → Cpu → ℕ
-pushed_sp list c = difference32 c.regs.sp (bytes_of list registers)
+pushed_sp list c = subtract c.regs.sp (bytes_of list registers)
 
 abbrev pub popped_sp : ℕ → Cpu → ℕ
-popped_sp list c = sum32 c.regs.sp (bytes_of list registers)
+popped_sp list c = add c.regs.sp (bytes_of list registers)
 
 -- why a push and a pop stop, if they do: the limit of SP, its alignment, and then the words
 unfoldable pub push_stop : ℕ → Cpu → Option Stop
@@ -231,12 +227,12 @@ unfoldable pub apply : Device → Effect → ℕ → State → Done
 apply device effect.Pass size s = went (pass size s)
 apply device (effect.Stop x) size s = stopped x s
 apply device (effect.Put d v) size s = write_register size d v s
-apply device (effect.Load t a n) size s = unless (load_stop a n) s (went (put size t (load n a device s.memory) s))
-apply device (effect.LoadSigned t a n) size s = unless (load_stop a n) s (went (put size t (signed n (load n a device s.memory)) s))
-apply device (effect.Store a n v) size s = unless (store_stop a n) s (stored size a n v s)
+apply device (effect.Load t a n) size s = or_stopped (load_stop a n) s (went (put size t (load n a device s.memory) s))
+apply device (effect.LoadSigned t a n) size s = or_stopped (load_stop a n) s (went (put size t (to_signed n (load n a device s.memory)) s))
+apply device (effect.Store a n v) size s = or_stopped (store_stop a n) s (stored size a n v s)
 apply device (effect.Jump a) size s = went (record s { cpu = record s.cpu { pc = a } })
-apply device (effect.Push list) size s = unless (push_stop list s.cpu) s (went (pushed list size s))
-apply device (effect.Pop list) size s = unless (pop_stop list s.cpu) s (went (popped device list size s))
+apply device (effect.Push list) size s = or_stopped (push_stop list s.cpu) s (went (pushed list size s))
+apply device (effect.Pop list) size s = or_stopped (pop_stop list s.cpu) s (went (popped device list size s))
 apply device (effect.Flags flags) size s = went (record s { cpu = record (pass size s).cpu { nzcvq = flags } })
 apply device (effect.Call a) size s = went (record s { cpu = record s.cpu { regs = record s.cpu.regs { lr = link size s.cpu }; pc = a } })
 apply device (effect.Special k v) size s = went (record s { cpu = special k v (pass size s).cpu })
@@ -289,12 +285,12 @@ set_by t c = record c {
 }
 
 -- the state after a turn has set its registers and its items have left this Non-secure RAM
-abbrev pub turned : Turn → List ℕ → State → State
-turned t ram s = record { cpu = set_by t s.cpu; memory = record s.memory { ns_ram = ram } }
+abbrev pub with_turn : Turn → List ℕ → State → State
+with_turn t ram s = record { cpu = set_by t s.cpu; memory = record s.memory { ns_ram = ram } }
 
 -- One turn in Non-secure state: registers, items, and the branch to the target. A turn itself hands nothing over.
 unfoldable pub turn_of : Device → Turn → State → Done
 turn_of device t s =
     let after = acted t.items s.memory.ns_ram in
-    let s' = turned t after.ram s in
-    unless after.stop s' (arrived device (goes_in device t.target) (aligned 2 t.target) what.Went s')
+    let s' = with_turn t after.ram s in
+    or_stopped after.stop s' (arrived device (goes_in device t.target) (aligned 2 t.target) what.Went s')

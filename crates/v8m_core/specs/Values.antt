@@ -1,64 +1,39 @@
--- What instructions compute, on numbers of 32 bits and on the flags (DDI0553, shared functions of the pseudocode).
-use Rattle.std.specs.Prelude.{ℕ, ◌+◌, ◌-◌, ◌*◌, ◌/◌, ◌%◌, ◌^◌, Bool, cond, ◌&&◌, not, eqb, ltb, leb}
+-- What instructions compute, on numbers of 32 bits and on the flags (DDI0553, shared functions of the pseudocode). Sums,
+-- differences, products and the rest are those of words; shifts and quotients go further here than C's operators.
+use Rattle.std.specs.Prelude.{ℕ, ◌+◌, ◌*◌, ◌/◌, ◌%◌, ◌^◌, Bool, cond, ◌&&◌, not, eqb, leb}
+use Rattle.ns_types.specs.Operators.{wrapped, subtract, complement, is_negative, magnitude, with_sign}
 use Rattle.v8m_mem.specs.Target.{flag}
-
-abbrev pub sum32 : ℕ → ℕ → ℕ
-sum32 a b = (a + b) % 4294967296
-
-abbrev pub difference32 : ℕ → ℕ → ℕ
-difference32 a b = (a + (4294967296 - b)) % 4294967296
-
-abbrev pub product32 : ℕ → ℕ → ℕ
-product32 a b = (a * b) % 4294967296
-
--- NOT
-abbrev pub inverted : ℕ → ℕ
-inverted a = 4294967295 - a
-
--- bit 31, the sign
-abbrev pub is_negative : ℕ → Bool
-is_negative a = leb 2147483648 a
-
--- a byte and a halfword with their sign, in 32 bits (SignExtend)
-abbrev pub signed_byte : ℕ → ℕ
-signed_byte a = cond (ltb a 128) a (sum32 a 4294967040)
-
-abbrev pub signed_half : ℕ → ℕ
-signed_half a = cond (ltb a 32768) a (sum32 a 4294901760)
 
 -- Shifts by any number of bits (LSL, LSR, ASR). A shift of a negative number to the right rounds down: its inverse
 -- is shifted.
 unfoldable pub shifted_left : ℕ → ℕ → ℕ
-shifted_left a k = (a * 2 ^ k) % 4294967296
+shifted_left a k = wrapped (a * 2 ^ k)
 
 unfoldable pub shifted_right : ℕ → ℕ → ℕ
 shifted_right a k = a / 2 ^ k
 
 unfoldable pub shifted_with_sign : ℕ → ℕ → ℕ
-shifted_with_sign a k = cond (is_negative a) (inverted (shifted_right (inverted a) k)) (shifted_right a k)
+shifted_with_sign a k = cond (is_negative a) (complement (shifted_right (complement a) k)) (shifted_right a k)
 
 -- Division rounds toward 0, and by 0 gives 0 (UDIV, SDIV). 80000000 by FFFFFFFF is 80000000.
 unfoldable pub quotient : ℕ → ℕ → ℕ
 quotient a b = cond (eqb b 0) 0 (a / b)
 
-abbrev pub magnitude : ℕ → ℕ
-magnitude a = cond (is_negative a) (difference32 0 a) a
-
 unfoldable pub signed_quotient : ℕ → ℕ → ℕ
 signed_quotient a b =
-    let q = quotient (magnitude a) (magnitude b) in
-    cond (is_negative a) (cond (is_negative b) q (difference32 0 q)) (cond (is_negative b) (difference32 0 q) q)
+    let negative = cond (is_negative a) (not (is_negative b)) (is_negative b) in
+    cond (eqb b 0) 0 (with_sign negative (magnitude a / magnitude b))
 
 -- The flags of a - b (CMP): N 16, Z 8, C 4, V 2; Q 1 stays as it was. C says that nothing was borrowed, and V that
 -- the result as a number with a sign isn't the difference.
 abbrev pub overflows : ℕ → ℕ → Bool
 overflows a b =
-    let r = difference32 a b in
+    let r = subtract a b in
     cond (is_negative a) (not (is_negative b) && not (is_negative r)) (is_negative b && is_negative r)
 
 unfoldable pub compared : ℕ → ℕ → ℕ → ℕ
 compared a b flags =
-    let r = difference32 a b in
+    let r = subtract a b in
     flag (is_negative r) 16 + flag (eqb r 0) 8 + flag (leb b a) 4 + flag (overflows a b) 2 + flags % 2
 
 -- a flag, by its weight

@@ -4,12 +4,12 @@ ghost use Rattle.std.specs.Prelude.{◌≡◌, ◌+◌, ◌^◌, ◌<◌, IsTrue
 ghost use Rattle.std.specs.Bool.{IsFalse, OnFalse, OnTrue};
 ghost use Rattle.ns_types.specs.State as states;
 ghost use Rattle.v8m_mem.specs.Rows.{is_size};
-ghost use Rattle.v8m_core.specs.Step.{apply, load_stop, pop_stop, push_stop, signed, special, store_stop, went, write_register};
+ghost use Rattle.v8m_core.specs.Step.{apply, load_stop, pop_stop, push_stop, special, store_stop, went, write_register};
 ghost use Rattle.v8m_core.specs.Parts.{Ends, EndsBy, can_apply, done, is_short, is_shown, passes_gate, shown, state};
 
 use crate::gates::{align, blxns, bx, bxns, limit_stop, link, stop};
 use crate::lists::{REGISTERS, all_readable, all_writable, bytes_of, load_all, store_all};
-use crate::values::{signed_byte, signed_half};
+use crate::values::to_signed;
 use crate::{Effect, Stepped};
 use cm_base::Stop;
 use ns_types::Cpu;
@@ -115,17 +115,6 @@ fn store(memory: &mut Memory, cpu: &mut Cpu, at: u32, bytes: u8, v: u32, size: u
     why
 }
 
-/// A number of 1 or 2 bytes with its sign.
-fn signed(size: u8, v: u32) -> u32
-    ensures { result ≡ signed size v }
-{
-    if size == 1 {
-        signed_byte(v)
-    } else {
-        signed_half(v)
-    }
-}
-
 /// Loads a register with a sign, or answers why it stops.
 #[inline(always)]
 #[tactic(auto, unfolding(crate::specs::Step::apply, crate::specs::Step::load_stop))]
@@ -144,7 +133,7 @@ fn load_signed(
 {
     let why = load_stop(at, bytes);
     if why.is_none() {
-        let v = signed(bytes, memory.load(at, bytes));
+        let v = to_signed(bytes, memory.load(at, bytes));
         cpu.regs.set(t, v);
         cpu.pc += size;
     }

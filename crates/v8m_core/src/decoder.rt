@@ -4,7 +4,8 @@ ghost use Rattle.std.specs.Prelude.{◌≡◌, ℕ, true, IfOk, IfErr, IsSome, I
 ghost use Rattle.cm_base.specs.declared.stop.Stop.TheVariants as stop;
 ghost use Rattle.ns_types.specs.State.{Device};
 ghost use Rattle.ns_types.specs.Platform.{is_in_rom};
-ghost use Rattle.v8m_isa.specs.Table.{decode_of, in_range_of};
+ghost use Rattle.v8m_isa.specs.Table.{in_range_of};
+ghost use Rattle.v8m_isa.specs.Decoding.{decode_of};
 ghost use Rattle.v8m_core.specs.Known.{AreRead, IsAt, NoneAt};
 
 use cm_base::{NoMemory, Stop};

@@ -7,7 +7,7 @@ ghost use Rattle.v8m_core.specs.Step.{arrived, blxns, bx, bxns, call_stop, calle
 ghost use Rattle.v8m_core.specs.Parts.{Ends, done, entry_of, is_quiet, state};
 
 use crate::Stepped;
-use cm_base::Stop;
+use cm_base::{NSC, Stop};
 use ns_types::{Cpu, Goes, Side, View};
 use v8m_mem::{Memory, can_read, can_write, is_in_rom, is_nonsecure, is_secure};
 
@@ -35,15 +35,15 @@ pub fn stop(cpu: &mut Cpu, stop: Stop) -> Stepped
 }
 
 /// Whether a Secure gateway stands at an address: SG within the Non-secure callable region.
-#[tactic(auto, unfolding(crate::specs::Step::is_gateway))]
+#[tactic(auto, unfolding(ns_types::specs::Gateway::is_gateway))]
 fn is_gateway(memory: &Memory, at: u32) -> bool
     ensures { result ≡ is_gateway memory.now.device at }
 {
-    0x103F_F000 <= at && at <= 0x103F_FFFC && memory.half(at) == SG && memory.half(at + 2) == SG
+    NSC.from <= at && at <= NSC.to - 4 && memory.half(at) == SG && memory.half(at + 2) == SG
 }
 
 /// Where a branch to Non-secure state, or in it, goes. Bit 0 of the target is ignored.
-#[tactic(auto, unfolding(crate::specs::Step::goes_in, ns_types::specs::Boundary::goes_of, crate::specs::Step::is_gateway))]
+#[tactic(auto, unfolding(crate::specs::Step::goes_in, ns_types::specs::Boundary::goes_of, ns_types::specs::Gateway::is_gateway))]
 fn goes_in(memory: &Memory, target: u32) -> Goes
     ensures value { result ≡ goes_in memory.now.device target }
     ensures entry { entry_of result + 4 < 2 ^ 32 }

@@ -5,6 +5,7 @@ mod applying;
 mod decoder;
 mod effect;
 mod gates;
+pub mod laws;
 mod lists;
 mod machine;
 mod operands;

@@ -2,7 +2,7 @@
 
 ghost use Rattle.std.specs.Prelude.{◌≡◌, ◌≤◌, ◌<◌, IsTrue, length};
 ghost use Rattle.std.specs.List.{list_all};
-ghost use Rattle.v8m_core.specs.Lists.{all_loaded, all_readable, all_stored, all_writable, bytes_of, in_list, is_register};
+ghost use Rattle.v8m_core.specs.Lists.{all_loaded, all_readable, all_stored, all_writable, bytes_of, in_list, is_register_number};
 
 use ns_types::Regs;
 use v8m_mem::{Memory, can_read, can_write};
@@ -21,7 +21,7 @@ fn in_list(list: u32, n: u32) -> bool
 #[tactic(auto, unfolding(crate::specs::Lists::bytes_of))]
 pub fn bytes_of(list: u32, registers: &[u32]) -> u32
     requires few { length registers.now ≤ 14 }
-    requires registers { IsTrue (list_all is_register registers.now) }
+    requires registers { IsTrue (list_all is_register_number registers.now) }
     ensures { result ≡ bytes_of list registers.now }
 {
     let mut bytes = 0;
@@ -36,7 +36,7 @@ pub fn bytes_of(list: u32, registers: &[u32]) -> u32
 /// Whether each word can be written.
 #[tactic(auto, unfolding(crate::specs::Lists::all_writable))]
 pub fn all_writable(list: u32, registers: &[u32], at: u32) -> bool
-    requires { IsTrue (list_all is_register registers.now) }
+    requires { IsTrue (list_all is_register_number registers.now) }
     ensures { result ≡ all_writable list registers.now at }
 {
     let mut a = at;
@@ -54,7 +54,7 @@ pub fn all_writable(list: u32, registers: &[u32], at: u32) -> bool
 /// Whether each word can be read.
 #[tactic(auto, unfolding(crate::specs::Lists::all_readable))]
 pub fn all_readable(list: u32, registers: &[u32], at: u32) -> bool
-    requires { IsTrue (list_all is_register registers.now) }
+    requires { IsTrue (list_all is_register_number registers.now) }
     ensures { result ≡ all_readable list registers.now at }
 {
     let mut a = at;
@@ -72,7 +72,7 @@ pub fn all_readable(list: u32, registers: &[u32], at: u32) -> bool
 /// Stores them.
 #[tactic(auto, unfolding(crate::specs::Lists::all_stored, crate::specs::Lists::all_writable))]
 pub fn store_all(memory: &mut Memory, regs: &Regs, list: u32, registers: &[u32], at: u32)
-    requires registers { IsTrue (list_all is_register registers.now) }
+    requires registers { IsTrue (list_all is_register_number registers.now) }
     requires writable { IsTrue (all_writable list registers.now at) }
     ensures { memory.new ≡ record memory.old { memory = all_stored list registers.now regs.now at memory.old.memory } }
 {
@@ -88,7 +88,7 @@ pub fn store_all(memory: &mut Memory, regs: &Regs, list: u32, registers: &[u32],
 /// Loads them.
 #[tactic(auto, unfolding(crate::specs::Lists::all_loaded, crate::specs::Lists::all_readable))]
 pub fn load_all(memory: &Memory, regs: &mut Regs, list: u32, registers: &[u32], at: u32)
-    requires registers { IsTrue (list_all is_register registers.now) }
+    requires registers { IsTrue (list_all is_register_number registers.now) }
     requires readable { IsTrue (all_readable list registers.now at) }
     ensures { regs.new ≡ all_loaded list registers.now memory.now.device memory.now.memory at regs.old }
 {

@@ -18,7 +18,7 @@ use crate::decoder::Decoder;
 use crate::gates::{align, stop};
 use crate::operands::effect_of;
 use crate::turning::play;
-use cm_base::{Bytes, NoMemory, PLATFORM, Stop};
+use cm_base::{Bytes, NoMemory, PLATFORM, SECURE_ROM, Stop};
 use ns_types::{Cpu, Regs, Side, Start, Turn};
 use std::alloc::Global;
 use std::marker::Model;
@@ -54,8 +54,8 @@ impl Model for Machine {
 fn reset_cpu(memory: &Memory) -> Cpu
     ensures { result ≡ reset_cpu memory.now.device }
 {
-    let sp = align(4, memory.load(0x1000_0000, 4));
-    let pc = align(2, memory.load(0x1000_0004, 4));
+    let sp = align(4, memory.load(SECURE_ROM.from, 4));
+    let pc = align(2, memory.load(SECURE_ROM.from + 4, 4));
     Cpu {
         side: Side::Secure,
         regs: Regs {

@@ -1,10 +1,11 @@
 //! What each instruction does, from the registers: a row of the instruction table is an arm, in groups.
 
 ghost use Rattle.std.specs.Prelude.{◌≡◌, ◌+◌, ◌^◌, ◌<◌, IfSome, IsTrue, cond};
+ghost use Rattle.ns_types.specs.Operators.{add};
 ghost use Rattle.ns_types.specs.State.{get_of};
 ghost use Rattle.v8m_isa.specs.Table.{in_range_of};
 ghost use Rattle.v8m_core.specs.Effects.{accessed, bitwise, branched, computed, moved, named, special_of, udf_stop};
-ghost use Rattle.v8m_core.specs.Values.{condition_holds, sum32};
+ghost use Rattle.v8m_core.specs.Values.{condition_holds};
 ghost use Rattle.v8m_core.specs.Step.{effect_of};
 ghost use Rattle.v8m_core.specs.Parts.{can_apply};
 
@@ -44,8 +45,8 @@ fn moved(cpu: &Cpu, instr: &Instr) -> Option<Effect>
             let low = r.get(d) % 0x1_0000;
             Some(put(d, 0x1_0000 * i + low))
         }
-        Instr::Sxtb { d, m } => Some(put(d, signed_byte(r.get(m) % 0x100))),
-        Instr::Sxth { d, m } => Some(put(d, signed_half(r.get(m) % 0x1_0000))),
+        Instr::Sxtb { d, m } => Some(put(d, signed_byte(r.get(m)))),
+        Instr::Sxth { d, m } => Some(put(d, signed_half(r.get(m)))),
         Instr::Uxtb { d, m } => Some(put(d, r.get(m) % 0x100)),
         Instr::Uxth { d, m } => Some(put(d, r.get(m) % 0x1_0000)),
         _ => None,
@@ -108,7 +109,7 @@ fn bitwise(cpu: &Cpu, instr: &Instr) -> Option<Effect>
 #[inline(always)]
 fn load(cpu: &Cpu, t: u32, n: u32, i: u32, size: u8) -> Effect
     requires { n < 15 }
-    ensures { result ≡ Effect.Load t (sum32 (get_of cpu.now.regs n) i) size }
+    ensures { result ≡ Effect.Load t (add (get_of cpu.now.regs n) i) size }
 {
     let at = cpu.regs.get(n).wrapping_add(i);
     Effect::Load { t, at, size }
@@ -118,7 +119,7 @@ fn load(cpu: &Cpu, t: u32, n: u32, i: u32, size: u8) -> Effect
 #[inline(always)]
 fn load_signed(cpu: &Cpu, t: u32, n: u32, i: u32, size: u8) -> Effect
     requires { n < 15 }
-    ensures { result ≡ Effect.LoadSigned t (sum32 (get_of cpu.now.regs n) i) size }
+    ensures { result ≡ Effect.LoadSigned t (add (get_of cpu.now.regs n) i) size }
 {
     let at = cpu.regs.get(n).wrapping_add(i);
     Effect::LoadSigned { t, at, size }
@@ -128,7 +129,7 @@ fn load_signed(cpu: &Cpu, t: u32, n: u32, i: u32, size: u8) -> Effect
 #[inline(always)]
 fn store(cpu: &Cpu, n: u32, i: u32, size: u8, v: u32) -> Effect
     requires { n < 15 }
-    ensures { result ≡ Effect.Store (sum32 (get_of cpu.now.regs n) i) size v }
+    ensures { result ≡ Effect.Store (add (get_of cpu.now.regs n) i) size v }
 {
     let at = cpu.regs.get(n).wrapping_add(i);
     Effect::Store { at, size, v }
@@ -175,7 +176,7 @@ fn udf_stop(i: u32) -> Stop
 /// Where a branch with an offset goes.
 fn branch_target(cpu: &Cpu, off: u32) -> u32
     requires { cpu.now.pc + 4 < 2 ^ 32 }
-    ensures { result ≡ sum32 (cpu.now.pc + 4) off }
+    ensures { result ≡ add (cpu.now.pc + 4) off }
 {
     (cpu.pc + 4).wrapping_add(off)
 }
@@ -211,7 +212,7 @@ fn branched(cpu: &Cpu, instr: &Instr) -> Option<Effect>
 /// A branch under a condition.
 fn branch_if(cpu: &Cpu, condition: u32, off: u32) -> Effect
     requires { cpu.now.pc + 4 < 2 ^ 32 }
-    ensures { result ≡ cond (condition_holds condition cpu.now.nzcvq) (Effect.Jump (sum32 (cpu.now.pc + 4) off)) Effect.Pass }
+    ensures { result ≡ cond (condition_holds condition cpu.now.nzcvq) (Effect.Jump (add (cpu.now.pc + 4) off)) Effect.Pass }
 {
     if condition_holds(condition, cpu.nzcvq) {
         let at = branch_target(cpu, off);

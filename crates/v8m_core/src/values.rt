@@ -1,28 +1,44 @@
 //! What instructions compute, on numbers of 32 bits and on the flags (DDI0553, shared functions of the pseudocode).
 
-ghost use Rattle.std.specs.Prelude.{◌≡◌, ◌≤◌, ◌<◌};
+ghost use Rattle.std.specs.Prelude.{◌≡◌, ◌≤◌, ◌<◌, IsTrue};
+ghost use Rattle.ns_types.specs.Operators.{is_negative, magnitude, to_signed, with_sign};
 ghost use Rattle.v8m_mem.specs.Target.{flag};
-ghost use Rattle.v8m_core.specs.Values.{compared, condition_holds, inverted, is_negative, is_set, magnitude, overflows, quotient, shifted_left, shifted_right, shifted_with_sign, signed_byte, signed_half, signed_quotient, tested};
+ghost use Rattle.v8m_core.specs.Values.{compared, condition_holds, is_set, overflows, quotient, shifted_left, shifted_right, shifted_with_sign, signed_quotient, tested};
+ghost use Rattle.v8m_core.specs.Parts.{is_short};
 
-/// A byte with its sign, in 32 bits.
+/// The low byte with its sign, in 32 bits.
 pub fn signed_byte(a: u32) -> u32
-    ensures { result ≡ signed_byte a }
+    ensures { result ≡ to_signed 1 a }
 {
-    if a < 0x80 {
-        a
+    let low = a % 0x100;
+    if low < 0x80 {
+        low
     } else {
-        a.wrapping_add(0xFFFF_FF00)
+        low + 0xFFFF_FF00
     }
 }
 
-/// A halfword with its sign, in 32 bits.
+/// The low halfword with its sign, in 32 bits.
 pub fn signed_half(a: u32) -> u32
-    ensures { result ≡ signed_half a }
+    ensures { result ≡ to_signed 2 a }
 {
-    if a < 0x8000 {
-        a
+    let low = a % 0x1_0000;
+    if low < 0x8000 {
+        low
     } else {
-        a.wrapping_add(0xFFFF_0000)
+        low + 0xFFFF_0000
+    }
+}
+
+/// The low 1 or 2 bytes with their sign, in 32 bits.
+pub fn to_signed(bytes: u8, a: u32) -> u32
+    requires { IsTrue (is_short bytes) }
+    ensures { result ≡ to_signed bytes a }
+{
+    if bytes == 1 {
+        signed_byte(a)
+    } else {
+        signed_half(a)
     }
 }
 
@@ -70,7 +86,8 @@ pub fn quotient(a: u32, b: u32) -> u32
 }
 
 fn magnitude(a: u32) -> u32
-    ensures { result ≡ magnitude a }
+    ensures value { result ≡ magnitude a }
+    ensures some { 0 < a → 0 < result }
 {
     if is_negative(a) {
         0u32.wrapping_sub(a)
@@ -79,17 +96,22 @@ fn magnitude(a: u32) -> u32
     }
 }
 
+fn with_sign(negative: bool, n: u32) -> u32
+    ensures { result ≡ with_sign negative n }
+{
+    if negative { 0u32.wrapping_sub(n) } else { n }
+}
+
 /// SDIV.
 #[tactic(auto, unfolding(crate::specs::Values::signed_quotient))]
 pub fn signed_quotient(a: u32, b: u32) -> u32
     ensures { result ≡ signed_quotient a b }
 {
-    let q = quotient(magnitude(a), magnitude(b));
-    if is_negative(a) == is_negative(b) {
-        q
-    } else {
-        0u32.wrapping_sub(q)
+    if b == 0 {
+        return 0;
     }
+    let q = magnitude(a) / magnitude(b);
+    with_sign(is_negative(a) != is_negative(b), q)
 }
 
 /// A flag, by its weight.

@@ -10,9 +10,10 @@ use Rattle.v8m_isa.specs.declared.table.Opcode.{Opcode}
 use Rattle.v8m_isa.specs.declared.table.Opcode.TheVariants as op
 use Rattle.v8m_isa.specs.declared.operand.Operand.{Operand}
 use Rattle.v8m_isa.specs.declared.operand.Operand.TheVariants as operand
-use Rattle.v8m_isa.specs.Fields.{is_register, is_register_or_sp, is_condition, is_number, is_special, is_list, is_offset, is_sp_from_sp}
-use Rattle.v8m_isa.specs.Form.{not_xor, turn, takes, bits_of, field_of, fields_of, fields_put, put_all, all_taken, is_kept, word_of, row_code}
-use Rattle.v8m_isa.specs.Table.{in_range_of, size_of, code_of, narrow, wide, part, half_of, plus_number, on_registers, of_register, at_address, branch, branch_if, row_of, opcode_of, numbers_of, Decoded, decode_of, IsReadAs}
+use Rattle.v8m_isa.specs.Form.{turn, takes, bits_of, field_of, fields_of, fields_put, put_all, all_taken, is_kept, word_of, row_code}
+use Rattle.v8m_isa.specs.Table.{is_register, is_register_or_sp, is_condition, is_number, is_special, is_list, is_offset, is_sp_from_sp, in_range_of, size_of, code_of, narrow, wide, part, half_of, plus_number, on_registers, of_register, at_address, not_xor, branch, branch_if, IsReadAs}
+use Rattle.v8m_isa.specs.Rows.{row_of, opcode_of, numbers_of}
+use Rattle.v8m_isa.specs.Decoding.{Decoded, decode_of}
 use Rattle.v8m_isa.proofs.PieceLaws.{and_parts}
 use Rattle.v8m_isa.proofs.KindLaws.{turned_parts}
 use Rattle.v8m_isa.proofs.RowLaws.{sum_put, fields_sum, word_of-sum}

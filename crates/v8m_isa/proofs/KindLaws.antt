@@ -6,7 +6,8 @@ use Rattle.std.proofs.Math.Nat.{mod-eq_of_lt}
 use Rattle.v8m_isa.specs.declared.form.Kind.{Kind}
 use Rattle.v8m_isa.specs.declared.form.Kind.TheVariants as kind
 use Rattle.v8m_isa.specs.declared.form.Rule.TheVariants.{SpFromSp}
-use Rattle.v8m_isa.specs.Form.{turn, not_xor, sign_extend, takes, bits_of, number_of, is_kept}
+use Rattle.v8m_isa.specs.Table.{not_xor}
+use Rattle.v8m_isa.specs.Form.{turn, sign_extend, takes, bits_of, number_of, is_kept}
 
 -- how many bits a field of a kind has
 abbrev pub has_width : Kind → ℕ → Bool

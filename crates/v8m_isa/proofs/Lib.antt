@@ -3,4 +3,5 @@ pub mod KindLaws
 pub mod RowLaws
 pub mod TableLaws
 pub mod Encodings
-pub mod Laws
+pub mod DecodingLaws
+pub mod ByteLaws

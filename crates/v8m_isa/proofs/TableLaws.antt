@@ -13,7 +13,8 @@ use Rattle.v8m_isa.specs.declared.table.Opcode.{Opcode}
 use Rattle.v8m_isa.specs.declared.table.Opcode.TheVariants as op
 use Rattle.v8m_isa.specs.declared.operand.TheConstants.{BLANK, CONDITION}
 use Rattle.v8m_isa.specs.Form.{Row, got_all, number_of, takes, field_takes, field_of, fields_got, all_taken, is_kept, row_takes, all_in_word, word_of, row_size, row_code, word_in, fits}
-use Rattle.v8m_isa.specs.Table.{opcodes, row_of, opcode_of, numbers_of, instr_of, Decoded, read_by, or_else, first_of, decode_of}
+use Rattle.v8m_isa.specs.Rows.{opcodes, row_of, opcode_of, numbers_of, instr_of}
+use Rattle.v8m_isa.specs.Decoding.{Decoded, read_by, or_else, first_of, decode_of}
 use Rattle.v8m_isa.specs.Choice.{Choice, none, only, first_is, second_is, chosen, choices}
 use Rattle.v8m_isa.proofs.PieceLaws.{and_parts, or_parts, slot, slot_or, above, got_all-show}
 use Rattle.v8m_isa.proofs.RowLaws.{is_clear_of, are_sound, slot-word_of, fields_got-word_of, word_of_lt}

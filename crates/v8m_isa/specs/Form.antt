@@ -12,7 +12,7 @@ use Rattle.v8m_isa.specs.declared.form.Rule.TheVariants.{Free, SpFromSp}
 use Rattle.v8m_isa.specs.declared.operand.Operand.{Operand}
 use Rattle.v8m_isa.specs.declared.operand.Operand.TheVariants as operand
 use Rattle.v8m_isa.specs.declared.operand.TheConstants as fields
-use Rattle.v8m_isa.specs.Fields.{is_register, is_register_or_sp, is_condition, is_number, is_special, is_list, is_offset, is_sp_from_sp}
+use Rattle.v8m_isa.specs.Table.{is_register, is_register_or_sp, is_condition, is_number, is_special, is_list, is_offset, is_sp_from_sp, not_xor}
 
 -- the bits that a piece has of a field's, put into the word, and got from it
 abbrev pub put : Piece → ℕ → ℕ
@@ -38,10 +38,6 @@ are_in_word f = ltb f.wide 32 && list_all is_in_word f.pieces
 
 abbrev pub all_in_word : List Field → Bool
 all_in_word fs = list_all are_in_word fs
-
--- NOT (I EOR S)
-abbrev pub not_xor : ℕ → ℕ → ℕ
-not_xor i s = (1 + i + s) % 2
 
 -- S:I1:I2:imm10:imm11 as S:J1:J2:imm10:imm11, or back (DDI0553, B, T4 encoding)
 unfoldable pub turn : ℕ → ℕ

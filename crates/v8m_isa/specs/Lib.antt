@@ -1,4 +1,6 @@
+pub mod Bytes
 pub mod Choice
-pub mod Fields
+pub mod Decoding
 pub mod Form
+pub mod Rows
 pub mod Table

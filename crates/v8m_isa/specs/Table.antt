@@ -1,13 +1,41 @@
--- The instruction table (DDI0553, part C): each instruction's ranges and halfwords, and what two halfwords are.
-use Rattle.std.specs.Prelude.{◌≡◌, ℕ, ◌+◌, ◌*◌, ◌/◌, ◌%◌, ◌^◌, Bool, true, false, ◌&&◌, eqb, List, [], ◌∷◌, slice_index, Option, Some, None, option_map}
+-- The instructions as the manual has them (DDI0553, part C): each one's ranges, its size and its halfwords, in plain
+-- arithmetic. The decoder is proved to read exactly these (`manual_halfwords`), so this file alone tells what it does.
+use Rattle.std.specs.Prelude.{◌≡◌, ℕ, ◌+◌, ◌-◌, ◌*◌, ◌/◌, ◌%◌, ◌^◌, Bool, true, ◌&&◌, ◌||◌, not, eqb, ltb, leb, count_ones}
 use Rattle.v8m_isa.specs.declared.instr.Instr.{Instr}
 use Rattle.v8m_isa.specs.declared.instr.Instr.TheVariants.{Nop, Mov, Bx, Bxns, Blxns, Udf, Sg, Movw, Movt, Addw, Subw, Add, Sub, Rsb, Cmp, And, Bic, Orr, Eor, Mvn, Lsl, Lsr, Asr, Sxtb, Sxth, Uxtb, Uxth, Mul, Mls, Sdiv, Udiv, Ldr, Ldrb, Ldrh, Ldrsb, Ldrsh, Str, Strb, Strh, Stmdb, Ldmia, B, Bl, Bc, Msr, Mrs, Tt, Ttt, Tta, Ttat}
 use Rattle.v8m_isa.specs.declared.instr.Code.{Code}
-use Rattle.v8m_isa.specs.declared.table.Opcode.{Opcode}
-use Rattle.v8m_isa.specs.declared.table.Opcode.TheVariants as op
-use Rattle.v8m_isa.specs.declared.table.TheConstants as rows
-use Rattle.v8m_isa.specs.Fields.{is_register, is_register_or_sp, is_condition, is_number, is_special, is_list, is_offset, is_sp_from_sp}
-use Rattle.v8m_isa.specs.Form.{Row, row, not_xor, row_size, numbers_in}
+
+-- a register other than SP and PC
+abbrev pub is_register : ℕ → Bool
+is_register r = ltb r 13 || eqb r 14
+
+-- a register other than PC
+abbrev pub is_register_or_sp : ℕ → Bool
+is_register_or_sp r = ltb r 15
+
+-- a condition other than AL
+abbrev pub is_condition : ℕ → Bool
+is_condition c = ltb c 14
+
+-- a number of n bits
+abbrev pub is_number : ℕ → ℕ → Bool
+is_number n i = ltb i (2 ^ n)
+
+-- APSR, MSP, PSP, MSPLIM, PSPLIM, MSP_NS or PSP_NS
+abbrev pub is_special : ℕ → Bool
+is_special s = eqb s 0 || (eqb s 8 || (eqb s 9 || (eqb s 10 || (eqb s 11 || (eqb s 136 || eqb s 137)))))
+
+-- two registers at least, neither SP nor PC, as bits
+abbrev pub is_list : ℕ → Bool
+is_list l = ltb l (2 ^ 15) && (eqb (l / 2 ^ 13 % 2) 0 && leb 2 (count_ones l))
+
+-- an even number from -2 ^ n up to 2 ^ n, as a number modulo 2 ^ 32
+abbrev pub is_offset : ℕ → ℕ → Bool
+is_offset n off = eqb (off % 2) 0 && (ltb off (2 ^ n) || leb (2 ^ 32 - 2 ^ n) off && ltb off (2 ^ 32))
+
+-- SP is written only from SP
+abbrev pub is_sp_from_sp : ℕ → ℕ → Bool
+is_sp_from_sp d n = not (eqb d 13) || eqb n 13
 
 -- each field of an instruction is in its range
 unfoldable pub in_range_of : Instr → Bool
@@ -115,7 +143,7 @@ size_of (Ttt d n) = 4
 size_of (Tta d n) = 4
 size_of (Ttat d n) = 4
 
--- the halfwords of one instruction, and of one with two
+-- the code of an instruction of one halfword, and of one of two
 abbrev pub narrow : ℕ → Code
 narrow first = record { first = first; second = 0; size = 2 }
 
@@ -134,14 +162,21 @@ half_of first d i = wide (first + 0x400 * part i 11 1 + part i 12 4) (0x1000 * p
 abbrev pub plus_number : ℕ → ℕ → ℕ → ℕ → Code
 plus_number first d n i = wide (first + 0x400 * part i 11 1 + n) (0x1000 * part i 8 3 + 0x100 * d + part i 0 8)
 
+-- d, n and m in their places
 abbrev pub on_registers : ℕ → ℕ → ℕ → ℕ → ℕ → Code
 on_registers first second d n m = wide (first + n) (second + 0x100 * d + m)
 
+-- d and m in theirs
 abbrev pub of_register : ℕ → ℕ → ℕ → ℕ → Code
 of_register first second d m = wide first (second + 0x100 * d + m)
 
+-- a load or a store: t, the base register n and a number of 12 bits
 abbrev pub at_address : ℕ → ℕ → ℕ → ℕ → Code
 at_address first t n i = wide (first + n) (0x1000 * t + i)
+
+-- NOT (I EOR S)
+abbrev pub not_xor : ℕ → ℕ → ℕ
+not_xor i s = (1 + i + s) % 2
 
 -- B and BL: S:I1:I2:imm10:imm11:0, with J1 = NOT (I1 EOR S) and J2 = NOT (I2 EOR S)
 abbrev pub branch : ℕ → ℕ → ℕ → Code
@@ -206,258 +241,6 @@ code_of (Tt d n) = wide (0xE840 + n) (0xF000 + 0x100 * d)
 code_of (Ttt d n) = wide (0xE840 + n) (0xF040 + 0x100 * d)
 code_of (Tta d n) = wide (0xE840 + n) (0xF080 + 0x100 * d)
 code_of (Ttat d n) = wide (0xE840 + n) (0xF0C0 + 0x100 * d)
-
--- the rows, from which code and decoder work, in the manual's order
-abbrev pub opcodes : List Opcode
-opcodes =
-    op.Nop ∷ op.Mov ∷ op.Bx ∷ op.Bxns ∷ op.Blxns ∷ op.Udf ∷ op.Sg ∷ op.Movw ∷ op.Movt ∷ op.Addw ∷
-    op.Subw ∷ op.Add ∷ op.Sub ∷ op.Rsb ∷ op.Cmp ∷ op.And ∷ op.Bic ∷ op.Orr ∷ op.Eor ∷ op.Mvn ∷
-    op.Lsl ∷ op.Lsr ∷ op.Asr ∷ op.Sxtb ∷ op.Sxth ∷ op.Uxtb ∷ op.Uxth ∷ op.Mul ∷ op.Mls ∷ op.Sdiv ∷
-    op.Udiv ∷ op.Ldr ∷ op.Ldrb ∷ op.Ldrh ∷ op.Ldrsb ∷ op.Ldrsh ∷ op.Str ∷ op.Strb ∷ op.Strh ∷ op.Stmdb ∷
-    op.Ldmia ∷ op.B ∷ op.Bl ∷ op.Bc ∷ op.Msr ∷ op.Mrs ∷ op.Tt ∷ op.Ttt ∷ op.Tta ∷ op.Ttat ∷ []
-
-unfoldable pub row_of : Opcode → Row
-row_of op.Nop = row rows.NOP
-row_of op.Mov = row rows.MOV
-row_of op.Bx = row rows.BX
-row_of op.Bxns = row rows.BXNS
-row_of op.Blxns = row rows.BLXNS
-row_of op.Udf = row rows.UDF
-row_of op.Sg = row rows.SG
-row_of op.Movw = row rows.MOVW
-row_of op.Movt = row rows.MOVT
-row_of op.Addw = row rows.ADDW
-row_of op.Subw = row rows.SUBW
-row_of op.Add = row rows.ADD
-row_of op.Sub = row rows.SUB
-row_of op.Rsb = row rows.RSB
-row_of op.Cmp = row rows.CMP
-row_of op.And = row rows.AND
-row_of op.Bic = row rows.BIC
-row_of op.Orr = row rows.ORR
-row_of op.Eor = row rows.EOR
-row_of op.Mvn = row rows.MVN
-row_of op.Lsl = row rows.LSL
-row_of op.Lsr = row rows.LSR
-row_of op.Asr = row rows.ASR
-row_of op.Sxtb = row rows.SXTB
-row_of op.Sxth = row rows.SXTH
-row_of op.Uxtb = row rows.UXTB
-row_of op.Uxth = row rows.UXTH
-row_of op.Mul = row rows.MUL
-row_of op.Mls = row rows.MLS
-row_of op.Sdiv = row rows.SDIV
-row_of op.Udiv = row rows.UDIV
-row_of op.Ldr = row rows.LDR
-row_of op.Ldrb = row rows.LDRB
-row_of op.Ldrh = row rows.LDRH
-row_of op.Ldrsb = row rows.LDRSB
-row_of op.Ldrsh = row rows.LDRSH
-row_of op.Str = row rows.STR
-row_of op.Strb = row rows.STRB
-row_of op.Strh = row rows.STRH
-row_of op.Stmdb = row rows.STMDB
-row_of op.Ldmia = row rows.LDMIA
-row_of op.B = row rows.B
-row_of op.Bl = row rows.BL
-row_of op.Bc = row rows.BC
-row_of op.Msr = row rows.MSR
-row_of op.Mrs = row rows.MRS
-row_of op.Tt = row rows.TT
-row_of op.Ttt = row rows.TTT
-row_of op.Tta = row rows.TTA
-row_of op.Ttat = row rows.TTAT
-
--- the row of an instruction, and the numbers of its fields, with 0 for each blank one
-unfoldable pub opcode_of : Instr → Opcode
-opcode_of Nop = op.Nop
-opcode_of (Mov d m) = op.Mov
-opcode_of (Bx m) = op.Bx
-opcode_of (Bxns m) = op.Bxns
-opcode_of (Blxns m) = op.Blxns
-opcode_of (Udf i) = op.Udf
-opcode_of Sg = op.Sg
-opcode_of (Movw d i) = op.Movw
-opcode_of (Movt d i) = op.Movt
-opcode_of (Addw d n i) = op.Addw
-opcode_of (Subw d n i) = op.Subw
-opcode_of (Add d n m) = op.Add
-opcode_of (Sub d n m) = op.Sub
-opcode_of (Rsb d n m) = op.Rsb
-opcode_of (Cmp n m) = op.Cmp
-opcode_of (And d n m) = op.And
-opcode_of (Bic d n m) = op.Bic
-opcode_of (Orr d n m) = op.Orr
-opcode_of (Eor d n m) = op.Eor
-opcode_of (Mvn d m) = op.Mvn
-opcode_of (Lsl d n m) = op.Lsl
-opcode_of (Lsr d n m) = op.Lsr
-opcode_of (Asr d n m) = op.Asr
-opcode_of (Sxtb d m) = op.Sxtb
-opcode_of (Sxth d m) = op.Sxth
-opcode_of (Uxtb d m) = op.Uxtb
-opcode_of (Uxth d m) = op.Uxth
-opcode_of (Mul d n m) = op.Mul
-opcode_of (Mls d n m a) = op.Mls
-opcode_of (Sdiv d n m) = op.Sdiv
-opcode_of (Udiv d n m) = op.Udiv
-opcode_of (Ldr t n i) = op.Ldr
-opcode_of (Ldrb t n i) = op.Ldrb
-opcode_of (Ldrh t n i) = op.Ldrh
-opcode_of (Ldrsb t n i) = op.Ldrsb
-opcode_of (Ldrsh t n i) = op.Ldrsh
-opcode_of (Str t n i) = op.Str
-opcode_of (Strb t n i) = op.Strb
-opcode_of (Strh t n i) = op.Strh
-opcode_of (Stmdb list) = op.Stmdb
-opcode_of (Ldmia list) = op.Ldmia
-opcode_of (B off) = op.B
-opcode_of (Bl off) = op.Bl
-opcode_of (Bc c off) = op.Bc
-opcode_of (Msr s n) = op.Msr
-opcode_of (Mrs d s) = op.Mrs
-opcode_of (Tt d n) = op.Tt
-opcode_of (Ttt d n) = op.Ttt
-opcode_of (Tta d n) = op.Tta
-opcode_of (Ttat d n) = op.Ttat
-
-unfoldable pub numbers_of : Instr → List ℕ
-numbers_of Nop = 0 ∷ 0 ∷ 0 ∷ 0 ∷ []
-numbers_of (Mov d m) = d ∷ m ∷ 0 ∷ 0 ∷ []
-numbers_of (Bx m) = m ∷ 0 ∷ 0 ∷ 0 ∷ []
-numbers_of (Bxns m) = m ∷ 0 ∷ 0 ∷ 0 ∷ []
-numbers_of (Blxns m) = m ∷ 0 ∷ 0 ∷ 0 ∷ []
-numbers_of (Udf i) = i ∷ 0 ∷ 0 ∷ 0 ∷ []
-numbers_of Sg = 0 ∷ 0 ∷ 0 ∷ 0 ∷ []
-numbers_of (Movw d i) = d ∷ i ∷ 0 ∷ 0 ∷ []
-numbers_of (Movt d i) = d ∷ i ∷ 0 ∷ 0 ∷ []
-numbers_of (Addw d n i) = d ∷ n ∷ i ∷ 0 ∷ []
-numbers_of (Subw d n i) = d ∷ n ∷ i ∷ 0 ∷ []
-numbers_of (Add d n m) = d ∷ n ∷ m ∷ 0 ∷ []
-numbers_of (Sub d n m) = d ∷ n ∷ m ∷ 0 ∷ []
-numbers_of (Rsb d n m) = d ∷ n ∷ m ∷ 0 ∷ []
-numbers_of (Cmp n m) = n ∷ m ∷ 0 ∷ 0 ∷ []
-numbers_of (And d n m) = d ∷ n ∷ m ∷ 0 ∷ []
-numbers_of (Bic d n m) = d ∷ n ∷ m ∷ 0 ∷ []
-numbers_of (Orr d n m) = d ∷ n ∷ m ∷ 0 ∷ []
-numbers_of (Eor d n m) = d ∷ n ∷ m ∷ 0 ∷ []
-numbers_of (Mvn d m) = d ∷ m ∷ 0 ∷ 0 ∷ []
-numbers_of (Lsl d n m) = d ∷ n ∷ m ∷ 0 ∷ []
-numbers_of (Lsr d n m) = d ∷ n ∷ m ∷ 0 ∷ []
-numbers_of (Asr d n m) = d ∷ n ∷ m ∷ 0 ∷ []
-numbers_of (Sxtb d m) = d ∷ m ∷ 0 ∷ 0 ∷ []
-numbers_of (Sxth d m) = d ∷ m ∷ 0 ∷ 0 ∷ []
-numbers_of (Uxtb d m) = d ∷ m ∷ 0 ∷ 0 ∷ []
-numbers_of (Uxth d m) = d ∷ m ∷ 0 ∷ 0 ∷ []
-numbers_of (Mul d n m) = d ∷ n ∷ m ∷ 0 ∷ []
-numbers_of (Mls d n m a) = d ∷ n ∷ m ∷ a ∷ []
-numbers_of (Sdiv d n m) = d ∷ n ∷ m ∷ 0 ∷ []
-numbers_of (Udiv d n m) = d ∷ n ∷ m ∷ 0 ∷ []
-numbers_of (Ldr t n i) = t ∷ n ∷ i ∷ 0 ∷ []
-numbers_of (Ldrb t n i) = t ∷ n ∷ i ∷ 0 ∷ []
-numbers_of (Ldrh t n i) = t ∷ n ∷ i ∷ 0 ∷ []
-numbers_of (Ldrsb t n i) = t ∷ n ∷ i ∷ 0 ∷ []
-numbers_of (Ldrsh t n i) = t ∷ n ∷ i ∷ 0 ∷ []
-numbers_of (Str t n i) = t ∷ n ∷ i ∷ 0 ∷ []
-numbers_of (Strb t n i) = t ∷ n ∷ i ∷ 0 ∷ []
-numbers_of (Strh t n i) = t ∷ n ∷ i ∷ 0 ∷ []
-numbers_of (Stmdb list) = list ∷ 0 ∷ 0 ∷ 0 ∷ []
-numbers_of (Ldmia list) = list ∷ 0 ∷ 0 ∷ 0 ∷ []
-numbers_of (B off) = off ∷ 0 ∷ 0 ∷ 0 ∷ []
-numbers_of (Bl off) = off ∷ 0 ∷ 0 ∷ 0 ∷ []
-numbers_of (Bc c off) = c ∷ off ∷ 0 ∷ 0 ∷ []
-numbers_of (Msr s n) = s ∷ n ∷ 0 ∷ 0 ∷ []
-numbers_of (Mrs d s) = d ∷ s ∷ 0 ∷ 0 ∷ []
-numbers_of (Tt d n) = d ∷ n ∷ 0 ∷ 0 ∷ []
-numbers_of (Ttt d n) = d ∷ n ∷ 0 ∷ 0 ∷ []
-numbers_of (Tta d n) = d ∷ n ∷ 0 ∷ 0 ∷ []
-numbers_of (Ttat d n) = d ∷ n ∷ 0 ∷ 0 ∷ []
-
--- the instruction of a row and the numbers of its fields
-unfoldable pub instr_of : Opcode → List ℕ → Instr
-instr_of op.Nop v = Nop
-instr_of op.Mov v = Mov (slice_index v 0) (slice_index v 1)
-instr_of op.Bx v = Bx (slice_index v 0)
-instr_of op.Bxns v = Bxns (slice_index v 0)
-instr_of op.Blxns v = Blxns (slice_index v 0)
-instr_of op.Udf v = Udf (slice_index v 0)
-instr_of op.Sg v = Sg
-instr_of op.Movw v = Movw (slice_index v 0) (slice_index v 1)
-instr_of op.Movt v = Movt (slice_index v 0) (slice_index v 1)
-instr_of op.Addw v = Addw (slice_index v 0) (slice_index v 1) (slice_index v 2)
-instr_of op.Subw v = Subw (slice_index v 0) (slice_index v 1) (slice_index v 2)
-instr_of op.Add v = Add (slice_index v 0) (slice_index v 1) (slice_index v 2)
-instr_of op.Sub v = Sub (slice_index v 0) (slice_index v 1) (slice_index v 2)
-instr_of op.Rsb v = Rsb (slice_index v 0) (slice_index v 1) (slice_index v 2)
-instr_of op.Cmp v = Cmp (slice_index v 0) (slice_index v 1)
-instr_of op.And v = And (slice_index v 0) (slice_index v 1) (slice_index v 2)
-instr_of op.Bic v = Bic (slice_index v 0) (slice_index v 1) (slice_index v 2)
-instr_of op.Orr v = Orr (slice_index v 0) (slice_index v 1) (slice_index v 2)
-instr_of op.Eor v = Eor (slice_index v 0) (slice_index v 1) (slice_index v 2)
-instr_of op.Mvn v = Mvn (slice_index v 0) (slice_index v 1)
-instr_of op.Lsl v = Lsl (slice_index v 0) (slice_index v 1) (slice_index v 2)
-instr_of op.Lsr v = Lsr (slice_index v 0) (slice_index v 1) (slice_index v 2)
-instr_of op.Asr v = Asr (slice_index v 0) (slice_index v 1) (slice_index v 2)
-instr_of op.Sxtb v = Sxtb (slice_index v 0) (slice_index v 1)
-instr_of op.Sxth v = Sxth (slice_index v 0) (slice_index v 1)
-instr_of op.Uxtb v = Uxtb (slice_index v 0) (slice_index v 1)
-instr_of op.Uxth v = Uxth (slice_index v 0) (slice_index v 1)
-instr_of op.Mul v = Mul (slice_index v 0) (slice_index v 1) (slice_index v 2)
-instr_of op.Mls v = Mls (slice_index v 0) (slice_index v 1) (slice_index v 2) (slice_index v 3)
-instr_of op.Sdiv v = Sdiv (slice_index v 0) (slice_index v 1) (slice_index v 2)
-instr_of op.Udiv v = Udiv (slice_index v 0) (slice_index v 1) (slice_index v 2)
-instr_of op.Ldr v = Ldr (slice_index v 0) (slice_index v 1) (slice_index v 2)
-instr_of op.Ldrb v = Ldrb (slice_index v 0) (slice_index v 1) (slice_index v 2)
-instr_of op.Ldrh v = Ldrh (slice_index v 0) (slice_index v 1) (slice_index v 2)
-instr_of op.Ldrsb v = Ldrsb (slice_index v 0) (slice_index v 1) (slice_index v 2)
-instr_of op.Ldrsh v = Ldrsh (slice_index v 0) (slice_index v 1) (slice_index v 2)
-instr_of op.Str v = Str (slice_index v 0) (slice_index v 1) (slice_index v 2)
-instr_of op.Strb v = Strb (slice_index v 0) (slice_index v 1) (slice_index v 2)
-instr_of op.Strh v = Strh (slice_index v 0) (slice_index v 1) (slice_index v 2)
-instr_of op.Stmdb v = Stmdb (slice_index v 0)
-instr_of op.Ldmia v = Ldmia (slice_index v 0)
-instr_of op.B v = B (slice_index v 0)
-instr_of op.Bl v = Bl (slice_index v 0)
-instr_of op.Bc v = Bc (slice_index v 0) (slice_index v 1)
-instr_of op.Msr v = Msr (slice_index v 0) (slice_index v 1)
-instr_of op.Mrs v = Mrs (slice_index v 0) (slice_index v 1)
-instr_of op.Tt v = Tt (slice_index v 0) (slice_index v 1)
-instr_of op.Ttt v = Ttt (slice_index v 0) (slice_index v 1)
-instr_of op.Tta v = Tta (slice_index v 0) (slice_index v 1)
-instr_of op.Ttat v = Ttat (slice_index v 0) (slice_index v 1)
-
--- an instruction that was read, and its size in bytes
-pub record Decoded : Type 0 where
-  pub instr : Instr
-  pub size : ℕ
-
--- what two halfwords are by a row
-unfoldable pub read_by : Opcode → ℕ → ℕ → Option Decoded
-read_by o first second = option_map (λ v. record { instr = instr_of o v; size = row_size (row_of o) }) (numbers_in (row_of o) first second)
-
--- the first of these rows that the halfwords fit
-abbrev pub or_else : Option Decoded → Option Decoded → Option Decoded
-or_else None rest = rest
-or_else (Some d) rest = Some d
-
-unfoldable pub first_of : List Opcode → ℕ → ℕ → Option Decoded
-first_of [] first second = None
-first_of (o ∷ os) first second = or_else (read_by o first second) (first_of os first second)
-
--- what two halfwords are: a row of one halfword leaves the second one out
-unfoldable pub decode_of : ℕ → ℕ → Option Decoded
-decode_of first second = first_of opcodes first second
-
-abbrev pub is_of_two_bytes : Option Decoded → Bool
-is_of_two_bytes None = false
-is_of_two_bytes (Some d) = eqb d.size 2
-
--- the halfword is an instruction by itself
-unfoldable pub is_narrow : ℕ → Bool
-is_narrow first = is_of_two_bytes (decode_of first 0)
-
-abbrev pub pair_of : Decoded → Instr × ℕ
-pair_of d = (d.instr, d.size)
 
 -- an instruction in range of this size has these halfwords, the second one where it has two
 pub record IsReadAs (first second : ℕ) (i : Instr) (size : ℕ) : Type 0 where

@@ -1,7 +1,8 @@
 //! From instructions to halfwords, and back.
 
 ghost use Rattle.std.specs.Prelude.{◌≡◌, ◌/◌, ◌%◌, ◌^◌, ◌<◌, IsTrue, IfSome, IfNone, Some, None, option_map};
-ghost use Rattle.v8m_isa.specs.Table.{in_range_of, code_of, decode_of, is_narrow, read_by, pair_of, IsReadAs, IsNoInstr};
+ghost use Rattle.v8m_isa.specs.Table.{in_range_of, code_of, IsReadAs, IsNoInstr};
+ghost use Rattle.v8m_isa.specs.Decoding.{decode_of, is_narrow, read_by, pair_of};
 ghost use Rattle.v8m_isa.specs.Choice.{chosen, choices, narrow_choices, bx_choices, register_choices, tt_choices, plain_choices, branch_choices, number_choices, memory_choices, shift_choices};
 
 use crate::instr::{Code, Instr};
@@ -232,7 +233,7 @@ fn bits(halfword: u16, at: u8, wide: u8) -> u16
 }
 
 // The instruction of a row, where the halfwords are of it.
-#[tactic(auto, unfolding(crate::specs::Table::read_by))]
+#[tactic(auto, unfolding(crate::specs::Decoding::read_by))]
 fn read(opcode: Opcode, first: u16, second: u16) -> Option<(Instr, u8)>
     ensures { result ≡ option_map pair_of (read_by opcode first second) }
 {

@@ -5,6 +5,7 @@
 mod codec;
 mod form;
 mod instr;
+pub mod laws;
 mod operand;
 mod table;
 #[cfg(test)]

@@ -3,7 +3,7 @@
 
 ghost use Rattle.std.specs.Prelude.{◌≡◌};
 ghost use Rattle.v8m_isa.specs.Form.{row};
-ghost use Rattle.v8m_isa.specs.Table.{row_of, opcode_of, numbers_of, instr_of};
+ghost use Rattle.v8m_isa.specs.Rows.{row_of, opcode_of, numbers_of, instr_of};
 
 use crate::form::{Form, Rule};
 use crate::instr::Instr;
@@ -185,7 +185,7 @@ pub enum Opcode {
 }
 
 /// A row.
-#[tactic(auto, unfolding(crate::specs::Table::row_of))]
+#[tactic(auto, unfolding(crate::specs::Rows::row_of))]
 pub fn form_of(opcode: Opcode) -> Form<4>
     ensures { row result ≡ row_of opcode }
 {
@@ -244,7 +244,7 @@ pub fn form_of(opcode: Opcode) -> Form<4>
 }
 
 /// The row of an instruction, and the numbers of its fields.
-#[tactic(auto, unfolding(crate::specs::Table::opcode_of, crate::specs::Table::numbers_of))]
+#[tactic(auto, unfolding(crate::specs::Rows::opcode_of, crate::specs::Rows::numbers_of))]
 pub fn parts_of(i: &Instr) -> (Opcode, [u32; 4])
     ensures row { result.0 ≡ opcode_of i.now }
     ensures numbers { result.1 ≡ numbers_of i.now }
@@ -304,7 +304,7 @@ pub fn parts_of(i: &Instr) -> (Opcode, [u32; 4])
 }
 
 /// The instruction of a row and the numbers of its fields.
-#[tactic(auto, unfolding(crate::specs::Table::instr_of))]
+#[tactic(auto, unfolding(crate::specs::Rows::instr_of))]
 pub fn instr_of(opcode: Opcode, numbers: &[u32; 4]) -> Instr
     ensures { result ≡ instr_of opcode numbers.now }
 {

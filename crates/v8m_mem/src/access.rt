@@ -5,6 +5,8 @@ ghost use Rattle.ns_types.specs.Platform.{in_row, is_in_rom, is_nonsecure, is_re
 ghost use Rattle.v8m_mem.specs.Rows.{is_size};
 ghost use Rattle.v8m_mem.specs.Target.{flag, target_of};
 
+use cm_base::{NS_RAM, NS_ROM, NSC, SECURE_CONTROL, SECURE_DATA, SECURE_ROM};
+
 /// Whether one region holds all `size` bytes at an address, so that Secure code may read them.
 #[tactic(auto, unfolding(ns_types::specs::Platform::is_readable))]
 pub fn can_read(at: u32, size: u8) -> bool
@@ -12,18 +14,18 @@ pub fn can_read(at: u32, size: u8) -> bool
     ensures { result ≡ is_readable at size }
 {
     let end = at as u64 + size as u64;
-    if at >= 0x3001_0000 {
-        end <= 0x3001_A000
-    } else if at >= 0x3000_0000 {
-        end <= 0x3001_0000
-    } else if at >= 0x2000_0000 {
-        end <= 0x2002_0000
-    } else if at >= 0x103F_F000 {
-        end <= 0x1040_0000
-    } else if at >= 0x1000_0000 {
-        end <= 0x103F_F000
+    if at >= SECURE_CONTROL.from {
+        end <= SECURE_CONTROL.to as u64
+    } else if at >= SECURE_DATA.from {
+        end <= SECURE_DATA.to as u64
+    } else if at >= NS_RAM.from {
+        end <= NS_RAM.to as u64
+    } else if at >= NSC.from {
+        end <= NSC.to as u64
+    } else if at >= SECURE_ROM.from {
+        end <= SECURE_ROM.to as u64
     } else {
-        end <= 0x0004_0000
+        end <= NS_ROM.to as u64
     }
 }
 
@@ -34,12 +36,12 @@ pub fn can_write(at: u32, size: u8) -> bool
     ensures { result ≡ is_writable at size }
 {
     let end = at as u64 + size as u64;
-    if at >= 0x3001_0000 {
-        end <= 0x3001_A000
-    } else if at >= 0x3000_0000 {
-        end <= 0x3001_0000
+    if at >= SECURE_CONTROL.from {
+        end <= SECURE_CONTROL.to as u64
+    } else if at >= SECURE_DATA.from {
+        end <= SECURE_DATA.to as u64
     } else {
-        at >= 0x2000_0000 && end <= 0x2002_0000
+        at >= NS_RAM.from && end <= NS_RAM.to as u64
     }
 }
 
@@ -48,14 +50,20 @@ pub fn can_write(at: u32, size: u8) -> bool
 pub fn region_at(at: u32) -> Option<u8>
     ensures { result ≡ region_of at }
 {
-    match at {
-        0..0x0004_0000 => Some(0),
-        0x2000_0000..0x2002_0000 => Some(1),
-        0x1000_0000..0x103F_F000 => Some(2),
-        0x103F_F000..0x1040_0000 => Some(3),
-        0x3000_0000..0x3001_0000 => Some(4),
-        0x3001_0000..0x3001_A000 => Some(5),
-        _ => None,
+    if at < NS_ROM.to {
+        Some(0)
+    } else if is_in_ns_ram(at) {
+        Some(1)
+    } else if SECURE_ROM.from <= at && at < SECURE_ROM.to {
+        Some(2)
+    } else if NSC.from <= at && at < NSC.to {
+        Some(3)
+    } else if SECURE_DATA.from <= at && at < SECURE_DATA.to {
+        Some(4)
+    } else if SECURE_CONTROL.from <= at && at < SECURE_CONTROL.to {
+        Some(5)
+    } else {
+        None
     }
 }
 
@@ -63,28 +71,28 @@ pub fn region_at(at: u32) -> Option<u8>
 pub fn is_in_rom(at: u32) -> bool
     ensures { result ≡ is_in_rom at }
 {
-    0x1000_0000 <= at && at < 0x1040_0000
+    SECURE_ROM.from <= at && at < NSC.to
 }
 
 /// Whether an address lies in Secure memory.
 pub fn is_secure(at: u32) -> bool
     ensures { result ≡ is_secure at }
 {
-    is_in_rom(at) || (0x3000_0000 <= at && at < 0x3001_A000)
+    is_in_rom(at) || (SECURE_DATA.from <= at && at < SECURE_CONTROL.to)
 }
 
 /// Whether an address lies in Non-secure RAM.
 pub fn is_in_ns_ram(at: u32) -> bool
     ensures { result ≡ in_row 1 at }
 {
-    0x2000_0000 <= at && at < 0x2002_0000
+    NS_RAM.from <= at && at < NS_RAM.to
 }
 
 /// Whether an address lies in Non-secure memory.
 pub fn is_nonsecure(at: u32) -> bool
     ensures { result ≡ is_nonsecure at }
 {
-    at < 0x0004_0000 || is_in_ns_ram(at)
+    at < NS_ROM.to || is_in_ns_ram(at)
 }
 
 /// A field of one bit, by its weight.

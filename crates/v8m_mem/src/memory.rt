@@ -3,13 +3,14 @@ ghost use Rattle.std.specs.Bool.{OnFalse};
 ghost use Rattle.cm_base.specs.declared.regions.TheConstants.{PLATFORM};
 ghost use Rattle.ns_types.specs.Platform.{in_row, is_in_rom, is_readable, is_writable, region_of, row};
 ghost use Rattle.ns_types.specs.State.{device_of};
-ghost use Rattle.ns_types.specs.Memory.{IsStart, half_at, load, memory_of, read_of, rom_size, store, write_of};
+ghost use Rattle.ns_types.specs.Gateway.{fetched};
+ghost use Rattle.ns_types.specs.Memory.{IsStart, load, memory_of, read_of, rom_size, store, write_of};
 ghost use Rattle.v8m_mem.specs.Rows.{AreWhole, is_size};
 ghost use Rattle.v8m_mem.specs.Target.{target_of};
 
 use crate::access::{can_read, can_write, region_at, target};
 use crate::bytes::{get_number, set_number};
-use cm_base::{NoMemory, Regions};
+use cm_base::{NS_RAM, NS_ROM, NoMemory, Regions, SECURE_DATA, SECURE_ROM};
 use ns_types::Start;
 use std::alloc::Global;
 use std::marker::Model;
@@ -121,14 +122,14 @@ impl Memory {
         requires readable { IsTrue (is_readable at size) }
         ensures { result ≡ load size at self.now.device self.now.memory }
     {
-        if at >= 0x3000_0000 {
-            get_number(&self.secure_ram, (at - 0x3000_0000) as usize, size)
-        } else if at >= 0x2000_0000 {
-            get_number(&self.ns_ram, (at - 0x2000_0000) as usize, size)
-        } else if at >= 0x1000_0000 {
-            get_number(&self.rom, (at - 0x1000_0000) as usize, size)
+        if at >= SECURE_DATA.from {
+            get_number(&self.secure_ram, (at - SECURE_DATA.from) as usize, size)
+        } else if at >= NS_RAM.from {
+            get_number(&self.ns_ram, (at - NS_RAM.from) as usize, size)
+        } else if at >= SECURE_ROM.from {
+            get_number(&self.rom, (at - SECURE_ROM.from) as usize, size)
         } else {
-            get_number(&self.ns_rom, at as usize, size)
+            get_number(&self.ns_rom, (at - NS_ROM.from) as usize, size)
         }
     }
 
@@ -139,15 +140,15 @@ impl Memory {
         requires writable { IsTrue (is_writable at size) }
         ensures { self.new ≡ record self.old { memory = store size at value self.old.memory } }
     {
-        if at >= 0x3000_0000 {
+        if at >= SECURE_DATA.from {
             set_number(
                 &mut self.secure_ram,
-                (at - 0x3000_0000) as usize,
+                (at - SECURE_DATA.from) as usize,
                 size,
                 value,
             );
         } else {
-            set_number(&mut self.ns_ram, (at - 0x2000_0000) as usize, size, value);
+            set_number(&mut self.ns_ram, (at - NS_RAM.from) as usize, size, value);
         }
     }
 
@@ -155,9 +156,9 @@ impl Memory {
     #[tactic(auto, unfolding(ns_types::specs::Memory::half_at))]
     pub fn half(&self, at: u32) -> u16
         requires { IsTrue (is_in_rom at) }
-        ensures { result ≡ half_at self.now.device (at - (row 2).from) }
+        ensures { result ≡ fetched self.now.device at }
     {
-        let o = (at - 0x1000_0000) as usize;
+        let o = (at - SECURE_ROM.from) as usize;
         if o + 1 < self.rom.len() {
             self.rom[o] as u16 + 0x100 * self.rom[o + 1] as u16
         } else {
@@ -173,7 +174,7 @@ impl Memory {
               memory = record self.old.memory { ns_ram = slice_set self.old.memory.ns_ram (at - (row 1).from) byte };
             } }
     {
-        let o = (at - 0x2000_0000) as usize;
+        let o = (at - NS_RAM.from) as usize;
         self.ns_ram[o] = byte;
     }
 }

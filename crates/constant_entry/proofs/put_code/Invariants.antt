@@ -1,6 +1,6 @@
 use Rattle.std.proofs.Common.{◌≡◌, ◌++◌, take}
 use Rattle.std.specs.List.{flat_map}
-use Rattle.v8m_core.specs.Code.{instr_bytes}
+use Rattle.v8m_isa.specs.Bytes.{instr_bytes}
 use Rattle.constant_entry.proofs.put_code.Given as goal
 
 abbrev pub invariant-loop-instr : goal.invariant-loop-instr

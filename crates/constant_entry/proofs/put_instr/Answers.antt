@@ -1,6 +1,6 @@
 use Rattle.std.proofs.Common.{◌≡◌, ◌≢◌, ◌++◌, sym, ap, ◌∙◌, append_assoc}
 use Rattle.v8m_isa.specs.declared.instr.Code.{Code}
-use Rattle.v8m_core.specs.Code.{two}
+use Rattle.cm_base.specs.LittleEndian.{le16}
 use Rattle.constant_entry.proofs.Placed.{instr_wide, instr_narrow}
 use Rattle.constant_entry.proofs.put_instr.Goals as goal
 
@@ -10,8 +10,8 @@ returns-in_ok-put16-2 c =
     let is = c.encode-code.ensures.is in
     let four : c.encode-code.result.size ≡ 4 = c.if-code-eq4.true in
     let bytes = instr_wide i c.encode-code.result.size (sym (ap (λ (k : Code). k.size) is)) four in
-    c.in_ok-put16-2.ensures.ok ∙ ap (λ l. l ++ two c.encode-code.result.second) c.in_ok-put16.ensures.ok ∙ append_assoc c.args.to.now (two c.encode-code.result.first) (two c.encode-code.result.second)
-    ∙ ap (λ (k : Code). c.args.to.now ++ (two k.first ++ two k.second)) is ∙ ap (λ l. c.args.to.now ++ l) (sym bytes)
+    c.in_ok-put16-2.ensures.ok ∙ ap (λ l. l ++ le16 c.encode-code.result.second) c.in_ok-put16.ensures.ok ∙ append_assoc c.args.to.now (le16 c.encode-code.result.first) (le16 c.encode-code.result.second)
+    ∙ ap (λ (k : Code). c.args.to.now ++ (le16 k.first ++ le16 k.second)) is ∙ ap (λ l. c.args.to.now ++ l) (sym bytes)
 
 pub returns-else-code-eq4 : goal.returns-else-code-eq4
 returns-else-code-eq4 c =
@@ -19,4 +19,4 @@ returns-else-code-eq4 c =
     let is = c.encode-code.ensures.is in
     let ne : c.encode-code.result.size ≢ 4 = c.if-code-eq4.false in
     let bytes = instr_narrow i c.encode-code.result.size (sym (ap (λ (k : Code). k.size) is)) ne in
-    c.in_ok-put16.ensures.ok ∙ ap (λ (k : Code). c.args.to.now ++ two k.first) is ∙ ap (λ l. c.args.to.now ++ l) (sym bytes)
+    c.in_ok-put16.ensures.ok ∙ ap (λ (k : Code). c.args.to.now ++ le16 k.first) is ∙ ap (λ l. c.args.to.now ++ l) (sym bytes)

@@ -1,6 +1,6 @@
 use Rattle.std.proofs.Common.{◌≡◌, ◌++◌, take}
 use Rattle.std.specs.List.{flat_map}
-use Rattle.elf32.specs.Fields.{le32}
+use Rattle.cm_base.specs.LittleEndian.{le32}
 use Rattle.constant_entry.proofs.put_words.Given as goal
 
 abbrev pub invariant-loop-word : goal.invariant-loop-word

@@ -1,9 +1,9 @@
 use Rattle.std.proofs.Common.{ℕ, ◌≡◌, ◌<◌, ◌≤◌, ◌+◌, ◌-◌, ◌++◌, List, length, true, Ok, ap, sym, subst, ◌∙◌, arith}
 use Rattle.std.proofs.lemmas.Result.{IfOk-weaker}
 use Rattle.cmse_build.specs.Constant.{is_entry_name}
-use Rattle.cmse_build.specs.Reading.{rom_of_image, zeros, word, is_entry}
+use Rattle.cmse_build.specs.Reading.{rom_of_image, rom_used_most, gateways_size, zeros, word, is_entry}
 use Rattle.cmse_build.proofs.Ready.{image_ready}
-use Rattle.constant_entry.specs.Code.{rom_bytes, used_bytes, gateway_bytes}
+use Rattle.constant_entry.specs.Code.{start_place, entry_place, rom_bytes, used_bytes, gateway_bytes}
 use Rattle.constant_entry.proofs.Placed.{used_size, region_size}
 use Rattle.cmse.proofs.BuildLaws.{entry_word, same_rom}
 use Rattle.cmse.proofs.build.image_of.Goals as goal
@@ -13,18 +13,18 @@ write_image-requires c =
     let rom : c.as_slice.result.now ≡ used_bytes c.args.n = c.as_slice.ensures ∙ c.in_ok-rom.ensures in
     let region : c.as_slice-2.result.now ≡ gateway_bytes = c.as_slice-2.ensures ∙ c.in_ok-region.ensures in
     let a : length c.as_slice.result.now ≡ 234 = ap length rom ∙ used_size c.args.n in
-    let b : length c.as_slice-2.result.now ≡ 4096 = ap length region ∙ region_size in
-    image_ready c.in_ok-from_slice.field-0 c.as_slice.result.now c.as_slice-2.result.now 268435664 (subst (λ n. is_entry_name n ≡ true) (sym c.in_ok-from_slice.ensures) c.requires) (omega arith) (omega arith)
+    let b : length c.as_slice-2.result.now ≡ gateways_size = ap length region ∙ region_size in
+    image_ready c.in_ok-from_slice.field-0 c.as_slice.result.now c.as_slice-2.result.now entry_place (subst (λ n. is_entry_name n ≡ true) (sym c.in_ok-from_slice.ensures) c.requires) (omega arith) (omega arith)
 
-pub returns : goal.returns
-returns c =
+pub returns-clause-reads : goal.returns-clause-reads
+returns-clause-reads c =
     let rom : c.as_slice.result.now ≡ used_bytes c.args.n = c.as_slice.ensures ∙ c.in_ok-rom.ensures in
     let region : c.as_slice-2.result.now ≡ gateway_bytes = c.as_slice-2.ensures ∙ c.in_ok-region.ensures in
     let a : length c.as_slice.result.now ≡ 234 = ap length rom ∙ used_size c.args.n in
-    let b : length c.as_slice-2.result.now ≡ 4096 = ap length region ∙ region_size in
-    let e : is_entry 268435521 (word c.as_slice.result.now 4) ≡ true = ap (λ r. is_entry 268435521 (word r 4)) rom ∙ entry_word c.args.n in
+    let b : length c.as_slice-2.result.now ≡ gateways_size = ap length region ∙ region_size in
+    let e : is_entry (start_place + 1) (word c.as_slice.result.now 4) ≡ true = ap (λ r. is_entry (start_place + 1) (word r 4)) rom ∙ entry_word c.args.n in
     IfOk-weaker c.write_image.result
-    (λ file. 4 < length c.as_slice.result.now → length c.as_slice.result.now ≤ 4190208 → length c.as_slice-2.result.now ≡ 4096 → is_entry 268435521 (word c.as_slice.result.now 4) ≡ true → rom_of_image file ≡ Ok ((c.as_slice.result.now ++ zeros (4190208 - length c.as_slice.result.now)) ++ c.as_slice-2.result.now))
+    (λ file. 4 < length c.as_slice.result.now → length c.as_slice.result.now ≤ rom_used_most → length c.as_slice-2.result.now ≡ gateways_size → is_entry (start_place + 1) (word c.as_slice.result.now 4) ≡ true → rom_of_image file ≡ Ok ((c.as_slice.result.now ++ zeros (rom_used_most - length c.as_slice.result.now)) ++ c.as_slice-2.result.now))
     (λ file. rom_of_image file ≡ Ok (rom_bytes c.args.n))
     (λ file reads. reads (omega arith) (omega arith) b e ∙ ap Ok (same_rom c.args.n c.as_slice.result.now c.as_slice-2.result.now rom region))
     c.write_image.ensures.reads_back

@@ -6,10 +6,9 @@ use Rattle.cmse_build.proofs.image.write_image.Goals as goal
 
 pub returns : goal.returns
 returns c =
-    let value = image_from_parts c.args.entry c.args.rom_used.now c.args.gateways.now c.args.gates.now c.in_ok-symbols.symbols c.in_ok-strings.strings _ _ _ _ _ _ _ _
-    c.in_ok-symbols.ensures c.in_ok-strings.ensures c.len-symbols_size.ensures c.len-strings_size.ensures
-    c.padding-fill.ensures c.padding-fill2.ensures c.padding-fill3.ensures
-    c.new-file.ensures c.in_ok-put_front.ensures c.in_ok-put_tables.ensures in
+    let value = image_from_parts c.args.entry c.args.rom_used.now c.args.gateways.now c.args.gates.now _ _ _ _ _ _ c.layout_of-layout.result _ _
+    c.in_ok-table.ensures.symbols c.in_ok-table.ensures.strings c.len-symbols_size.ensures c.len-strings_size.ensures
+    c.layout_of-layout.ensures.value c.new-file.ensures c.in_ok-put_headers.ensures c.in_ok-put_parts.ensures c.in_ok-put_table_sections.ensures in
     let low : c.args.entry < 2 ^ 32 = omega arith in
     record {
       value = value;

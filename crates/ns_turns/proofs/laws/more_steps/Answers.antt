@@ -3,4 +3,4 @@ use Rattle.ns_turns.proofs.RunLaws.{run_goes}
 use Rattle.ns_turns.proofs.laws.more_steps.Goals as goal
 
 pub returns : goal.returns
-returns c rom start ts n m le = run_goes rom n m ts (reset_of rom start) le
+returns c device start ts n m le = run_goes device n m ts (reset_of device start) le

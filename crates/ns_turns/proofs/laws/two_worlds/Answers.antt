@@ -2,4 +2,4 @@ use Rattle.ns_turns.proofs.SightLaws.{two_worlds}
 use Rattle.ns_turns.proofs.laws.two_worlds.Goals as goal
 
 pub returns : goal.returns
-returns c rom enters run refines tells = two_worlds rom enters run refines tells
+returns c device enters run refines told = two_worlds device enters run refines told

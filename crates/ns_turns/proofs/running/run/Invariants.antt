@@ -5,8 +5,8 @@ use Rattle.ns_turns.proofs.running.run.Given as goal
 
 abbrev pub invariant-loop-left : goal.invariant-loop-left
 invariant-loop-left l = record {
-  rom : l.machine.rom ≡ l.fn.machine.rom;
-  run : run_of l.fn.machine.rom l.n l.turns l.fn.machine.state ≡ behind l.list (run_of l.fn.machine.rom l.left (drop l.next l.turns) l.machine.state);
+  device : l.machine.device ≡ l.fn.machine.device;
+  run : run_of l.fn.machine.device l.n l.turns l.fn.machine.state ≡ behind l.list (run_of l.fn.machine.device l.left (drop l.next l.turns) l.machine.state);
 }
 
 abbrev pub decreases-loop-left : goal.decreases-loop-left

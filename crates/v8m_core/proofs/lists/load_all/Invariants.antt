@@ -5,6 +5,6 @@ use Rattle.v8m_core.proofs.lists.load_all.Given as goal
 
 abbrev pub invariant-loop-n : goal.invariant-loop-n
 invariant-loop-n l = record {
-  loaded : all_loaded l.list (drop l.n-index l.registers) l.memory.rom l.memory.memory l.a l.regs ≡ all_loaded l.list l.registers l.memory.rom l.memory.memory l.at l.fn.regs;
+  loaded : all_loaded l.list (drop l.n-index l.registers) l.memory.device l.memory.memory l.a l.regs ≡ all_loaded l.list l.registers l.memory.device l.memory.memory l.at l.fn.regs;
   readable : IsTrue (all_readable l.list (drop l.n-index l.registers) l.a);
 }

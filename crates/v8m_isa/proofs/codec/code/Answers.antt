@@ -1,6 +1,6 @@
 use Rattle.std.proofs.Common.{ap, ◌∙◌}
 use Rattle.v8m_isa.specs.Form.{row_code}
-use Rattle.v8m_isa.specs.Table.{row_of, opcode_of}
+use Rattle.v8m_isa.specs.Rows.{row_of, opcode_of}
 use Rattle.v8m_isa.proofs.TableLaws.{row_code_of}
 use Rattle.v8m_isa.proofs.Encodings.{code_is}
 use Rattle.v8m_isa.proofs.codec.code.Goals as goal

@@ -1,5 +1,5 @@
 use Rattle.std.proofs.Common.{arith}
-use Rattle.v8m_isa.proofs.Laws.{back, no_instr}
+use Rattle.v8m_isa.proofs.DecodingLaws.{back, no_instr}
 use Rattle.v8m_isa.proofs.codec.decode.Goals as goal
 
 pub returns-clause-back : goal.returns-clause-back

@@ -1,7 +1,7 @@
 use Rattle.std.proofs.Common.{◌≡◌, sym, ap, ◌∙◌, subst, Some}
 use Rattle.v8m_isa.specs.declared.instr.Code.{Code}
-use Rattle.v8m_isa.specs.Table.{decode_of}
-use Rattle.v8m_isa.proofs.Laws.{decode_of-code_of, size-code_of, second-code_of_narrow}
+use Rattle.v8m_isa.specs.Decoding.{decode_of}
+use Rattle.v8m_isa.proofs.DecodingLaws.{decode_of-code_of, size-code_of, second-code_of_narrow}
 use Rattle.v8m_isa.proofs.codec.encode.Goals as goal
 
 pub returns-clause-back : goal.returns-clause-back

@@ -1,5 +1,5 @@
 use Rattle.std.proofs.Common.{sym, ◌∙◌, arith}
-use Rattle.v8m_isa.proofs.Laws.{chosen_none, chosen_some}
+use Rattle.v8m_isa.proofs.DecodingLaws.{chosen_none, chosen_some}
 use Rattle.v8m_isa.proofs.codec.found.Goals as goal
 
 pub returns-in_err-opcode : goal.returns-in_err-opcode

@@ -1,6 +1,6 @@
 use Rattle.std.proofs.Common.{ap, ◌∙◌}
 use Rattle.v8m_isa.specs.Form.{row_takes}
-use Rattle.v8m_isa.specs.Table.{row_of, opcode_of}
+use Rattle.v8m_isa.specs.Rows.{row_of, opcode_of}
 use Rattle.v8m_isa.proofs.TableLaws.{taken_of}
 use Rattle.v8m_isa.proofs.Encodings.{taken_is}
 use Rattle.v8m_isa.proofs.codec.in_range.Goals as goal

@@ -1,6 +1,6 @@
 use Rattle.std.proofs.Common.{◌≡◌, ◌∙◌, false, ltb, arith}
 use Rattle.std.proofs.lemmas.Bool.Decides.{nat_tests}
-use Rattle.v8m_isa.proofs.Laws.{narrow_below, narrow_above}
+use Rattle.v8m_isa.proofs.DecodingLaws.{narrow_below, narrow_above}
 use Rattle.v8m_isa.proofs.codec.is_narrow.Goals as goal
 
 pub returns-then-bits-lt29 : goal.returns-then-bits-lt29

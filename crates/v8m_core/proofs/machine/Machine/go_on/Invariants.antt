@@ -6,7 +6,7 @@ use Rattle.v8m_core.proofs.machine.Machine.go_on.Given as goal
 
 abbrev pub invariant-loop-taken : goal.invariant-loop-taken
 invariant-loop-taken l = record {
-  rom : l.self-inside.memory.rom ≡ l.fn.self.rom;
-  kept : AreRead l.self-inside.memory.rom l.self-inside.decoder;
-  steps : Comes l.fn.self.rom l.taken l.fn.self.state (state l.self-inside.cpu l.self-inside.memory.memory);
+  device : l.self-inside.memory.device ≡ l.fn.self.device;
+  kept : AreRead l.self-inside.memory.device l.self-inside.decoder;
+  steps : Comes l.fn.self.device l.taken l.fn.self.state (state l.self-inside.cpu l.self-inside.memory.memory);
 }
