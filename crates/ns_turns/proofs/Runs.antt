@@ -1,38 +1,27 @@
--- What a run makes of a step, by who runs.
+-- What the loop over the steps of a run keeps.
 use Rattle.std.proofs.Common.{◌≡◌, ℕ, suc, ◌+◌, ◌-◌, ◌<◌, List, [], ◌∷◌, ◌++◌, length, refl, sym, ap, ◌∙◌, arith, append_assoc, Result}
 use Rattle.std.proofs.lemmas.List.{append-nil}
-use Rattle.cm_base.specs.declared.stop.Stop.{Stop}
 use Rattle.ns_types.specs.declared.event.Event.{Event}
 use Rattle.ns_types.specs.declared.event.End.{End}
 use Rattle.ns_types.specs.declared.event.End.TheVariants as end
 use Rattle.ns_types.specs.declared.event.Events.{Events}
-use Rattle.ns_types.specs.declared.state.Side.TheVariants.{Secure, NonSecure, Stopped}
+use Rattle.ns_types.specs.declared.state.Side.TheVariants.{NonSecure}
 use Rattle.ns_types.specs.Turns.{Turn}
 use Rattle.ns_types.specs.State.{Device, State}
 use Rattle.v8m_core.specs.declared.stepped.Stepped.{Stepped}
-use Rattle.v8m_core.specs.Step.{Done, step_of, turn_of}
-use Rattle.ns_turns.specs.Run.{after, ends, next_of, run_of}
+use Rattle.v8m_core.specs.Step.{Done, turn_of}
+use Rattle.ns_turns.specs.Run.{after, ends, run_of}
 use Rattle.ns_turns.specs.Advance.{Advances, behind, then_rest}
 use Rattle.ns_turns.specs.Runs.{RunsIn}
+use Rattle.ns_turns.proofs.RunLaws.{run_turn, run_waits}
 
-pub run_stopped : (device : Device) (n : ℕ) (ts : List Turn) (s : State) (x : Stop) → s.cpu.side ≡ Stopped x → run_of device (suc n) ts s ≡ ends end.Stopped
-unfolding run_of
-run_stopped device n ts s x e = rw e refl
+-- where the turns that are left are given by an equation
 
-pub run_secure : (device : Device) (n : ℕ) (ts : List Turn) (s : State) (d : Done) → s.cpu.side ≡ Secure → step_of device s ≡ d → run_of device (suc n) ts s ≡ after d (run_of device n ts d.state)
-unfolding run_of
-run_secure device n ts s d e step = rw (step, e) refl
+pub without_turns : (device : Device) (n : ℕ) (ts : List Turn) (s : State) → s.cpu.side ≡ NonSecure → ts ≡ [] → run_of device (suc n) ts s ≡ ends end.Waiting
+without_turns device n ts s side none = ap (λ us. run_of device (suc n) us s) none ∙ run_waits device (suc n) s side
 
-pub run_waits : (device : Device) (n : ℕ) (ts : List Turn) (s : State) → s.cpu.side ≡ NonSecure → ts ≡ [] → run_of device (suc n) ts s ≡ ends end.Waiting
-unfolding run_of
-run_waits device n ts s e none = rw (e, none) refl
-
-pub run_turn : (device : Device) (n : ℕ) (ts rest : List Turn) (t : Turn) (s : State) (d : Done) → s.cpu.side ≡ NonSecure → ts ≡ t ∷ rest → turn_of device t s ≡ d → run_of device (suc n) ts s ≡ after d (run_of device n rest d.state)
-unfolding run_of
-run_turn device n ts rest t s d e more turn =
-    let play = λ (u : Turn) (us : List Turn). after (turn_of device u s) (run_of device n us (turn_of device u s).state) in
-    let step = after (step_of device s) (run_of device n ts (step_of device s).state) in
-    ap (λ x. next_of ends play step x ts) e ∙ ap (λ us. next_of ends play step NonSecure us) more ∙ ap (λ x. after x (run_of device n rest x.state)) turn
+pub with_turn : (device : Device) (n : ℕ) (ts rest : List Turn) (t : Turn) (s : State) (d : Done) → s.cpu.side ≡ NonSecure → ts ≡ t ∷ rest → turn_of device t s ≡ d → run_of device (suc n) ts s ≡ after d (run_of device n rest d.state)
+with_turn device n ts rest t s d side more turn = ap (λ us. run_of device (suc n) us s) more ∙ run_turn device n t rest s d side turn
 
 pub spent_turn : (device : Device) (ts : List Turn) (s : State) → s.cpu.side ≡ NonSecure → 0 < length ts → ends end.Spent ≡ run_of device 0 ts s
 unfolding run_of

@@ -20,6 +20,8 @@ use Rattle.ns_types.specs.Access.{Written, write_access}
 use Rattle.ns_types.specs.Platform.{aligned}
 use Rattle.ns_types.specs.Boundary.{goes_of, item_stop, eight_zeros}
 use Rattle.ns_types.specs.CRun.{World, Outcome, Gave, Over, then_go, mark_at, emit, emit_plain, stop_with, reach, phase, c_run, Run, run_of}
+use Rattle.ns_types.specs.Counters.{GoesOnTo, GoesOn, OnlyGoOn}
+use Rattle.ns_types.proofs.CounterLaws.{stays, earlier, on_then, phase_goes_on}
 use Rattle.ns_types.specs.Show.{show, events_shown}
 use Rattle.ns_types.specs.Ram.{ram_at}
 use Rattle.ns_types.specs.Declares.{Declares}
@@ -106,12 +108,13 @@ entry_at a =
     enters_of (record { name = codes "one"; address = 0x103FF008 } ∷ record { name = codes "twice"; address = 0x103FF000 } ∷ record { name = codes "poke"; address = 0x103FF010 } ∷ [])
     (codes "twice" ∷ codes "one" ∷ codes "poke" ∷ []) a
 
+-- an access's events, and its outcome
+abbrev told : List CEvent → World → World
+told [] w = w
+told (e ∷ es) w = told es (emit_plain e w)
+
 abbrev wrote : Result Written Stop → World → Outcome
-wrote (Ok x) w = Gave 0 (events x.events (record w { memory = x.memory }))
-  where
-    events : List CEvent → World → World
-    events [] w = w
-    events (e ∷ es) w = events es (emit_plain e w)
+wrote (Ok x) w = Gave 0 (told x.events (record w { memory = x.memory }))
 wrote (Err x) w = stop_with x w
 
 -- the bodies, by how many may be active at once and the need of those that are
@@ -120,9 +123,38 @@ bodies turns zero need e args w = Over end.Spent w
 bodies turns (suc deep) need zero args w =
     let a = slice_index args 1 in
     let target = aligned 2 (slice_index args 0) in
-    then_go (phase entry_at (bodies turns deep (need + 156)) turns (length w.turns) (emit (c.Called target (a ∷ [])) (mark_at target eight_zeros w) (reach (need + 156) w))) (λ r u. Gave (add r a) u)
+    let called = emit (c.Called target (a ∷ [])) (mark_at target eight_zeros w) (reach (need + 156) w) in
+    then_go (phase entry_at (bodies turns deep (need + 156)) turns (length w.turns) called) (λ r u. Gave (add r a) u)
 bodies turns (suc deep) need (suc zero) args w = Gave (add (slice_index args 0) 1) (reach (need + 132) w)
 bodies turns (suc deep) need (suc (suc e)) args w = wrote (write_access 4 (slice_index args 0) (slice_index args 1) w.memory) (reach (need + 144) w)
+
+-- the bodies only go on, nested phases included
+all_told : (es : List CEvent) (w : World) → GoesOnTo w (told es w)
+all_told [] w = stays w
+all_told (e ∷ es) w = let f = all_told es (emit_plain e w) in record { turns = f.turns; entries = f.entries }
+
+poke_goes_on : (x : Result Written Stop) (w : World) → GoesOn w (wrote x w)
+poke_goes_on (Err y) w = record { by = tt }
+poke_goes_on (Ok x) w = let f = all_told x.events (record w { memory = x.memory }) in record { by = record { turns = f.turns; entries = f.entries } }
+
+body_goes_on : (turns deep need : ℕ) → OnlyGoOn (bodies turns deep (need + 156)) → (e : ℕ) (args : List ℕ) (w : World) → GoesOn w (bodies turns (suc deep) need e args w)
+body_goes_on turns deep need inner zero args w =
+    let target = aligned 2 (slice_index args 0) in
+    let u = emit (c.Called target (slice_index args 1 ∷ [])) (mark_at target eight_zeros w) (reach (need + 156) w) in
+    let enter = bodies turns deep (need + 156) in
+    let rest = phase entry_at enter turns (length w.turns) u in
+    let f = stays w in
+    on_then w rest _ (earlier w u rest (record { turns = f.turns; entries = f.entries }) (phase_goes_on entry_at enter inner turns (length w.turns) u))
+    (λ r v. record { by = stays v })
+body_goes_on turns deep need inner (suc zero) args w = let f = stays w in record { by = record { turns = f.turns; entries = f.entries } }
+body_goes_on turns deep need inner (suc (suc e)) args w =
+    let u = reach (need + 144) w in
+    let f = stays w in
+    earlier w u _ (record { turns = f.turns; entries = f.entries }) (poke_goes_on (write_access 4 (slice_index args 0) (slice_index args 1) w.memory) u)
+
+bodies_go_on : (turns deep need : ℕ) → OnlyGoOn (bodies turns deep need)
+bodies_go_on turns zero need = record { by = λ e args w. record { by = tt } }
+bodies_go_on turns (suc deep) need = record { by = body_goes_on turns deep need (bodies_go_on turns deep (need + 156)) }
 
 abbrev played : ℕ → List Turn → Run
 played turns ts = run_of (c_run entry_at (bodies turns 8 0) turns start (memory_of start) ts)
