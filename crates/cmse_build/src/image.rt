@@ -8,9 +8,9 @@ ghost use Rattle.cmse_build.specs.Reading.{is_entry, word, zeros, rom_used_most,
 
 use cm_base::{Bytes, NSC, NoMemory, SECURE_ROM, Text};
 use elf32::{
-    ARM_HEADER, ET_EXEC, FileHeader, HEADER_SIZE, PF_R, PF_X, PROGRAM_HEADER_SIZE, PT_LOAD, ProgramHeader, SECTION_NAMES,
-    SECTION_NAMES_SIZE, SymbolTable, Tables, absolute_function, aligned, put_header, put_padded, put_program_header,
-    put_table_sections,
+    ARM_HEADER, ET_EXEC, FileHeader, HEADER_SIZE, PF_R, PF_X, PROGRAM_HEADER_SIZE, PT_LOAD,
+    ProgramHeader, SECTION_NAMES, SECTION_NAMES_SIZE, SymbolTable, Tables, absolute_function,
+    aligned, put_header, put_padded, put_program_header, put_table_sections,
 };
 use std::alloc::Global;
 

@@ -8,7 +8,8 @@ ghost use Rattle.cmse_build.specs.Reading.{Gives, GivesOrNoMemory, Leaves, test,
 
 use cm_base::{Bytes, List, NSC, NoMemory, SECURE_ROM};
 use elf32::{
-    EF_ARM_EABI_VER5, ELF_MAGIC, ELFCLASS32, ELFDATA2LSB, EM_ARM, ET_EXEC, EV_CURRENT, HEADER_SIZE, PROGRAM_HEADER_SIZE, PT_LOAD, get16, get32,
+    EF_ARM_EABI_VER5, ELF_MAGIC, ELFCLASS32, ELFDATA2LSB, EM_ARM, ET_EXEC, EV_CURRENT, HEADER_SIZE,
+    PROGRAM_HEADER_SIZE, PT_LOAD, get16, get32,
 };
 use std::alloc::Global;
 use thiserror::Error;
@@ -138,7 +139,10 @@ fn word(bytes: &[u8], at: u32) -> u32
 fn test_identification(bytes: &[u8]) -> Result<(), u32>
     ensures { Gives (λ _. tt) result (identification_of bytes.now) }
 {
-    test(HEADER_SIZE as usize <= bytes.len(), field_at(bytes.len() as u64))?;
+    test(
+        HEADER_SIZE as usize <= bytes.len(),
+        field_at(bytes.len() as u64),
+    )?;
     test(is32(bytes, 0, ELF_MAGIC), 0)?;
     test(is8(bytes, 4, ELFCLASS32), 4)?;
     test(is8(bytes, 5, ELFDATA2LSB), 5)?;
@@ -230,7 +234,11 @@ fn add_segment(bytes: &[u8], at: u32, segments: &mut List<Segment>) -> Result<()
 {
     let size = bytes.len() as u32;
     let cut = at + 4 * (size.saturating_sub(at) / 4);
-    test(u64::from(at) + u64::from(ONE_HEADER) <= u64::from(size), cut).map_err(ImageFault::BadImage)?;
+    test(
+        u64::from(at) + u64::from(ONE_HEADER) <= u64::from(size),
+        cut,
+    )
+    .map_err(ImageFault::BadImage)?;
     if !is_loaded(bytes, at) {
         return Ok(());
     }
@@ -292,7 +300,11 @@ fn rom_of(alloc: Global, bytes: &[u8], segments: &[Segment]) -> Result<Bytes, No
     for s in segments {
         let from = s.from as usize;
         let filled = &bytes[from..from + s.filled as usize];
-        put_bytes(rom.as_mut_slice(), (s.at - SECURE_ROM.from) as usize, filled);
+        put_bytes(
+            rom.as_mut_slice(),
+            (s.at - SECURE_ROM.from) as usize,
+            filled,
+        );
     }
     Ok(Bytes::from_vec(rom))
 }

@@ -1,6 +1,6 @@
 //! Expected values from the ELF formats (System V ABI, Object Files; ECM0359818, Import library).
 
-ghost use Rattle.std.specs.Prelude.{◌≡◌, true, length, IfOk};
+ghost use Rattle.std.specs.Prelude.{◌≡◌, ◌≤◌, true, length, IfOk};
 ghost use Rattle.cmse_build.specs.Constant.{is_entry_name};
 
 use crate::{Gate, ImageFault, load_image, read_constant, write_image};
@@ -113,11 +113,7 @@ fn library_of_one_entry(rt: HostRuntime) -> Result<(), Fail> {
     Ok(())
 }
 
-fn small_rom(alloc: Global) -> Result<Bytes, NoMemory>
-    ensures { IfOk result (λ rom. length rom ≡ 8) }
-{
-    Bytes::from_slice(alloc, &[0xF8, 0x7F, 1, 0x30, 0x41, 0, 0, 0x10])
-}
+const SMALL_ROM: [u8; 8] = [0xF8, 0x7F, 1, 0x30, 0x41, 0, 0, 0x10];
 
 fn gateways(alloc: Global) -> Result<Bytes, NoMemory>
     ensures { IfOk result (λ bytes. length bytes ≡ 4096) }
@@ -125,8 +121,10 @@ fn gateways(alloc: Global) -> Result<Bytes, NoMemory>
     Ok(Bytes::from_vec(vec![in alloc; 0x7Fu8; 4096]?))
 }
 
-/// The image of a ROM of two words, with one entry `answer`.
-fn image(alloc: Global) -> Result<Bytes, NoMemory> {
+/// The image of a ROM with one entry `answer`.
+fn image_of(alloc: Global, rom: &[u8]) -> Result<Bytes, NoMemory>
+    requires { length rom.now ≤ 100 }
+{
     let gate = Gate {
         name: answer(alloc)?,
         address: 0x103F_F000,
@@ -134,15 +132,18 @@ fn image(alloc: Global) -> Result<Bytes, NoMemory> {
     };
     let mut gates = List::new(alloc);
     gates.push(gate)?;
-    let rom = small_rom(alloc)?;
     let gateways = gateways(alloc)?;
     write_image(
         alloc,
         0x1000_0041,
-        rom.as_slice(),
+        rom,
         gateways.as_slice(),
         gates.as_slice(),
     )
+}
+
+fn image(alloc: Global) -> Result<Bytes, NoMemory> {
+    image_of(alloc, &SMALL_ROM)
 }
 
 /// Words of the image, by their offsets.
@@ -204,6 +205,29 @@ fn image_of_one_entry(rt: HostRuntime) -> Result<(), Fail> {
     let file = image(rt.alloc())?;
     assert_eq!(rt; file.len(), 4484);
     for (at, word) in IMAGE {
+        assert_eq!(rt; get32(file.as_slice(), at), Some(word), "at {at}");
+    }
+    Ok(())
+}
+
+/// Words of the image of a ROM of ten bytes: zero bytes lead to the second segment.
+const PADDED: [(u32, u32); 8] = [
+    (56, 116),
+    (68, 10),
+    (88, 128),
+    (100, 4096),
+    (124, 0x0000_0201),
+    (128, 0x7F7F_7F7F),
+    (4220, 0x7F7F_7F7F),
+    (4224, 0),
+];
+
+#[test]
+fn second_segment_is_aligned(rt: HostRuntime) -> Result<(), Fail> {
+    let rom = [0xF8, 0x7F, 1, 0x30, 0x41, 0, 0, 0x10, 1, 2];
+    let file = image_of(rt.alloc(), &rom)?;
+    assert_eq!(rt; file.len(), 4488);
+    for (at, word) in PADDED {
         assert_eq!(rt; get32(file.as_slice(), at), Some(word), "at {at}");
     }
     Ok(())
@@ -280,6 +304,25 @@ fn changed_image(rt: HostRuntime) -> Result<(), Fail> {
         };
         assert_eq!(rt; fault, want.map(ImageFault::BadImage), "byte {at}");
     }
+    Ok(())
+}
+
+/// Bytes put over the image at their offsets: the second segment is empty, and inside the first.
+const EMPTY: [(usize, u8); 4] = [(96, 4), (97, 0), (98, 0), (105, 0)];
+
+#[test]
+fn empty_segment_meets_nothing(rt: HostRuntime) -> Result<(), Fail> {
+    let mut file = image(rt.alloc())?;
+    for (at, byte) in EMPTY {
+        if at < file.len() {
+            file.set(at, byte);
+        }
+    }
+    let fault = match load(rt.alloc(), file.as_slice()) {
+        Ok(_) => None,
+        Err(fault) => Some(fault),
+    };
+    assert_eq!(rt; fault, Some(ImageFault::BadImage(104)));
     Ok(())
 }
 

@@ -9,20 +9,20 @@ mod constants;
 mod structures;
 mod tables;
 
+use cm_base::{Bytes, NoMemory};
 pub use constants::{
-    EF_ARM_EABI_VER5, ELF_MAGIC, ELFCLASS32, ELFDATA2LSB, EM_ARM, ET_EXEC, ET_NONE, ET_REL, EV_CURRENT, HEADER_SIZE, PF_R, PF_X, PROGRAM_HEADER_SIZE, PT_LOAD,
-    SECTION_HEADER_SIZE, SHN_ABS, SHN_UNDEF, SHT_NULL, SHT_STRTAB, SHT_SYMTAB, STB_GLOBAL, STT_FUNC, SYMBOL_SIZE,
+    EF_ARM_EABI_VER5, ELF_MAGIC, ELFCLASS32, ELFDATA2LSB, EM_ARM, ET_EXEC, ET_NONE, ET_REL,
+    EV_CURRENT, HEADER_SIZE, PF_R, PF_X, PROGRAM_HEADER_SIZE, PT_LOAD, SECTION_HEADER_SIZE,
+    SHN_ABS, SHN_UNDEF, SHT_NULL, SHT_STRTAB, SHT_SYMTAB, STB_GLOBAL, STT_FUNC, SYMBOL_SIZE,
 };
 pub use structures::{
-    ARM_HEADER, FileHeader, NULL_SECTION, NULL_SYMBOL, ProgramHeader, SectionHeader, Symbol, absolute_function,
-    put_header, put_program_header, put_section_header, put_symbol,
+    ARM_HEADER, FileHeader, NULL_SECTION, NULL_SYMBOL, ProgramHeader, SectionHeader, Symbol,
+    absolute_function, put_header, put_program_header, put_section_header, put_symbol,
 };
 pub use tables::{
-    SECTION_NAMES, SECTION_NAMES_SIZE, SymbolTable, Tables, aligned, padding, put_padded, put_section_headers,
-    put_table_sections,
+    SECTION_NAMES, SECTION_NAMES_SIZE, SymbolTable, Tables, aligned, padding, put_padded,
+    put_section_headers, put_table_sections,
 };
-
-use cm_base::{Bytes, NoMemory};
 
 /// The 16-bit field at an offset. None comes exactly where it isn't whole in the bytes.
 pub fn get16(bytes: &[u8], at: u32) -> Option<u16>

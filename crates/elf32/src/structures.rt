@@ -4,8 +4,8 @@ ghost use Rattle.cm_base.specs.LittleEndian.{le16, le32};
 ghost use Rattle.elf32.specs.Structures.{header_bytes, program_header_bytes, section_header_bytes, symbol_bytes, absolute_function};
 
 use crate::constants::{
-    EF_ARM_EABI_VER5, EM_ARM, ET_NONE, EV_CURRENT, HEADER_SIZE, SECTION_HEADER_SIZE, SHN_ABS, SHN_UNDEF, SHT_NULL, STB_GLOBAL,
-    STT_FUNC,
+    EF_ARM_EABI_VER5, EM_ARM, ET_NONE, EV_CURRENT, HEADER_SIZE, SECTION_HEADER_SIZE, SHN_ABS,
+    SHN_UNDEF, SHT_NULL, STB_GLOBAL, STT_FUNC,
 };
 use crate::{put16, put32};
 use cm_base::{Bytes, NoMemory};
@@ -152,10 +152,20 @@ pub fn put_header(to: &mut Bytes, h: &FileHeader) -> Result<(), NoMemory>
 {
     to.extend_from_slice(IDENTIFICATION)?;
     put_halves(to, &[h.e_type, h.e_machine])?;
-    put_words(to, &[h.e_version, h.e_entry, h.e_phoff, h.e_shoff, h.e_flags])?;
+    put_words(
+        to,
+        &[h.e_version, h.e_entry, h.e_phoff, h.e_shoff, h.e_flags],
+    )?;
     put_halves(
         to,
-        &[h.e_ehsize, h.e_phentsize, h.e_phnum, h.e_shentsize, h.e_shnum, h.e_shstrndx],
+        &[
+            h.e_ehsize,
+            h.e_phentsize,
+            h.e_phnum,
+            h.e_shentsize,
+            h.e_shnum,
+            h.e_shstrndx,
+        ],
     )
 }
 
@@ -166,7 +176,9 @@ pub fn put_program_header(to: &mut Bytes, p: &ProgramHeader) -> Result<(), NoMem
 {
     put_words(
         to,
-        &[p.p_type, p.p_offset, p.p_vaddr, p.p_paddr, p.p_filesz, p.p_memsz, p.p_flags, p.p_align],
+        &[
+            p.p_type, p.p_offset, p.p_vaddr, p.p_paddr, p.p_filesz, p.p_memsz, p.p_flags, p.p_align,
+        ],
     )
 }
 
@@ -175,8 +187,20 @@ pub fn put_program_header(to: &mut Bytes, p: &ProgramHeader) -> Result<(), NoMem
 pub fn put_section_header(to: &mut Bytes, s: &SectionHeader) -> Result<(), NoMemory>
     ensures { OnOk result (to.new ≡ to.old ++ section_header_bytes s.now) }
 {
-    put_words(to, &[s.sh_name, s.sh_type, s.sh_flags, s.sh_addr, s.sh_offset])?;
-    put_words(to, &[s.sh_size, s.sh_link, s.sh_info, s.sh_addralign, s.sh_entsize])
+    put_words(
+        to,
+        &[s.sh_name, s.sh_type, s.sh_flags, s.sh_addr, s.sh_offset],
+    )?;
+    put_words(
+        to,
+        &[
+            s.sh_size,
+            s.sh_link,
+            s.sh_info,
+            s.sh_addralign,
+            s.sh_entsize,
+        ],
+    )
 }
 
 /// Appends a symbol.

@@ -4,7 +4,9 @@ ghost use Rattle.elf32.specs.Structures.{symbol_bytes, section_header_bytes, nul
 ghost use Rattle.elf32.specs.Tables.{with_name_at, table_sections_bytes, padding, aligned, padded};
 
 use crate::constants::{SHT_STRTAB, SHT_SYMTAB, SYMBOL_SIZE};
-use crate::structures::{NULL_SECTION, NULL_SYMBOL, SectionHeader, Symbol, put_section_header, put_symbol};
+use crate::structures::{
+    NULL_SECTION, NULL_SYMBOL, SectionHeader, Symbol, put_section_header, put_symbol,
+};
 use cm_base::{Bytes, NoMemory};
 use std::alloc::Global;
 

@@ -6,8 +6,8 @@ ghost use Rattle.import_lib.specs.Library.{symbols_of, library_of, CanWrite};
 
 use cm_base::{Bytes, NoMemory};
 use elf32::{
-    ARM_HEADER, ET_REL, FileHeader, HEADER_SIZE, SECTION_NAMES, SECTION_NAMES_SIZE, SymbolTable, Tables, absolute_function, aligned,
-    put_header, put_padded, put_table_sections,
+    ARM_HEADER, ET_REL, FileHeader, HEADER_SIZE, SECTION_NAMES, SECTION_NAMES_SIZE, SymbolTable,
+    Tables, absolute_function, aligned, put_header, put_padded, put_table_sections,
 };
 use ns_types::{Veneer, Veneers};
 use std::alloc::Global;
