@@ -1,5 +1,5 @@
 -- A call of Non-secure code, and one of the function return address.
-use Rattle.std.proofs.Common.{◌≡◌, ℕ, ◌+◌, ◌%◌, ◌<◌, Bool, true, false, cond, List, refl, sym, ap, ◌∙◌, ⊎_elim, inl, arith, Some, None}
+use Rattle.std.proofs.Common.{◌≡◌, ℕ, ◌+◌, ◌%◌, ◌<◌, Bool, true, false, cond, refl, sym, ap, ◌∙◌, ⊎_elim, inl, arith, Some, None}
 use Rattle.std.specs.Prelude.{eqb, not, ◌&&◌}
 use Rattle.std.proofs.lemmas.Bool.Decides.{nat_tests}
 use Rattle.cm_base.specs.declared.stop.Stop.TheVariants as stop
@@ -71,7 +71,7 @@ return_of_call back device s whole lt_sp lt_back h =
     let can2 : is_writable (p + 4) 4 ≡ true = ap (λ x. is_writable x 4) (sym e.second) ∙ r.second in
     let m1 : Memory = store 4 p back s.memory in
     let mem : t.memory ≡ store 4 (p + 4) 0 m1 = ap (λ x. store 4 x 0 m1) e.second in
-    let whole1 : IsWhole m1 = whole_store p back s.memory whole r.first in
+    let whole1 : IsWhole m1 = whole_store 4 p back s.memory whole in
     let second : load 4 (p + 4) device t.memory ≡ 0 = ap (load 4 (p + 4) device) mem ∙ load_same (p + 4) 0 device m1 whole1 can2 (omega arith) in
     let first : load 4 p device t.memory ≡ back = ap (load 4 p device) mem ∙ load_other p (p + 4) 0 device m1 r.first can2 (inl (omega arith)) ∙ load_same p back device s.memory whole r.first lt_back in
     let even : eqb (p % 8) 0 ≡ true = (let z : p % 8 ≡ 0 = omega (arith, e.sum, r.aligned) in grind (arith, nat_tests)) in

@@ -1,5 +1,5 @@
 -- How effects end.
-use Rattle.std.proofs.Common.{◌≡◌, ℕ, List, Option, sym, subst}
+use Rattle.std.proofs.Common.{◌≡◌, ℕ, Option, sym, subst}
 use Rattle.cm_base.specs.declared.stop.Stop.{Stop}
 use Rattle.ns_types.specs.State.{Device, State}
 use Rattle.v8m_core.specs.declared.effect.Effect.{Effect}

@@ -1,12 +1,12 @@
 -- Words of RAM that are written and read again.
-use Rattle.std.proofs.Common.{◌≡◌, ℕ, ◌+◌, ◌-◌, ◌<◌, ◌≤◌, ◌⊎◌, Bool, true, false, List, refl, sym, ap, ◌∙◌, subst, ⊎_elim, inl, inr, arith}
+use Rattle.std.proofs.Common.{◌≡◌, ℕ, ◌+◌, ◌-◌, ◌<◌, ◌≤◌, ◌⊎◌, Bool, true, false, cond, refl, sym, ap, ◌∙◌, ⊎_elim, inl, inr, arith}
 use Rattle.std.specs.Prelude.{◌||◌}
 use Rattle.std.proofs.lemmas.Bool.Decides.{nat_tests}
 use Rattle.cm_base.specs.declared.regions.TheConstants.{NS_RAM, SECURE_DATA, SECURE_CONTROL}
 use Rattle.ns_types.specs.State.{Device, Memory}
-use Rattle.ns_types.specs.Platform.{in_row, lies_in, is_readable, is_writable}
+use Rattle.ns_types.specs.Platform.{row, in_row, lies_in, is_readable, is_writable}
 use Rattle.ns_types.specs.Memory.{IsWhole, word_at, put_word, load, store}
-use Rattle.v8m_core.proofs.Words.{same_word, other_word, length-put_word}
+use Rattle.v8m_core.proofs.Words.{same_word, other_word, length-put_number}
 
 -- where a word can be written: Non-secure RAM, or Secure RAM
 pub record InNs (a : ℕ) : Type 0 where
@@ -95,9 +95,13 @@ unfolding is_readable is_writable
 readable_where_writable a h = or_more (lies_in 0 a 4) (lies_in 1 a 4) (lies_in 2 a 4) (lies_in 3 a 4) (lies_in 4 a 4 || lies_in 5 a 4) h
 
 -- a store leaves the lengths of the regions
-pub whole_store : (a v : ℕ) (m : Memory) → IsWhole m → is_writable a 4 ≡ true → IsWhole (store 4 a v m)
-whole_store a v m whole can =
-    ⊎_elim
-    (λ h. subst IsWhole (sym (store_ns a v m h)) (record { ns_rom = whole.ns_rom; ns_ram = length-put_word m.ns_ram (a - NS_RAM.from) v ∙ whole.ns_ram; secure_ram = whole.secure_ram }))
-    (λ h. subst IsWhole (sym (store_secure a v m h)) (record { ns_rom = whole.ns_rom; ns_ram = whole.ns_ram; secure_ram = length-put_word m.secure_ram (a - SECURE_DATA.from) v ∙ whole.secure_ram }))
-    (place a can)
+pub whole_cond : (b : Bool) (x y : Memory) → IsWhole x → IsWhole y → IsWhole (cond b x y)
+whole_cond true x y p q = p
+whole_cond false x y p q = q
+
+pub whole_store : (size a v : ℕ) (m : Memory) → IsWhole m → IsWhole (store size a v m)
+unfolding store
+whole_store size a v m h =
+    whole_cond (in_row 1 a) _ _
+    (record { ns_rom = h.ns_rom; ns_ram = length-put_number size m.ns_ram (a - (row 1).from) v ∙ h.ns_ram; secure_ram = h.secure_ram })
+    (record { ns_rom = h.ns_rom; ns_ram = h.ns_ram; secure_ram = length-put_number size m.secure_ram (a - (row 4).from) v ∙ h.secure_ram })

@@ -1,5 +1,5 @@
 -- What a step is, by the halfwords that are fetched.
-use Rattle.std.proofs.Common.{◌≡◌, ◌+◌, ℕ, true, false, List, refl, sym, ap, Option, Some, None}
+use Rattle.std.proofs.Common.{◌≡◌, ◌+◌, ℕ, true, false, refl, sym, ap, Option, Some, None}
 use Rattle.std.specs.Prelude.{option_map}
 use Rattle.v8m_isa.specs.declared.instr.Instr.{Instr}
 use Rattle.v8m_isa.specs.Decoding.{Decoded, decode_of, is_narrow, pair_of}

@@ -1,8 +1,9 @@
 -- Words of rows: what is read after a write.
-use Rattle.std.proofs.Common.{◌≡◌, ◌≢◌, ℕ, ◌+◌, ◌*◌, ◌/◌, ◌%◌, ◌<◌, ◌≤◌, ◌⊎◌, List, length, ap, ◌∙◌, ⊎_elim, inl, inr, arith}
-use Rattle.std.specs.Prelude.{slice_index, slice_set}
+use Rattle.std.proofs.Common.{◌≡◌, ◌≢◌, ℕ, Bool, true, false, cond, ◌+◌, ◌*◌, ◌/◌, ◌%◌, ◌<◌, ◌≤◌, ◌⊎◌, List, length, ap, ◌∙◌, ⊎_elim, inl, inr, arith}
+use Rattle.std.specs.Prelude.{eqb, slice_index, slice_set}
 use Rattle.std.proofs.lemmas.Grind.{common_steps}
-use Rattle.ns_types.specs.Memory.{word_at, put_word}
+use Rattle.std.proofs.lemmas.List.{length-set}
+use Rattle.ns_types.specs.Memory.{word_at, put_byte, put_half, put_word, put_number}
 
 pub same_byte : (row : List ℕ) (o v : ℕ) → o < length row → slice_index (slice_set row o v) o ≡ v
 same_byte row o v lt = grind (arith, common_steps)
@@ -13,6 +14,22 @@ other_byte row o p v ne = grind (arith, common_steps)
 pub length-put_word : (row : List ℕ) (o v : ℕ) → length (put_word row o v) ≡ length row
 unfolding put_word
 length-put_word row o v = grind (arith, common_steps)
+
+length_cond : (b : Bool) (x y : List ℕ) (n : ℕ) → length x ≡ n → length y ≡ n → length (cond b x y) ≡ n
+length_cond true x y n p q = p
+length_cond false x y n p q = q
+
+length-put_byte : (bytes : List ℕ) (o v : ℕ) → length (put_byte bytes o v) ≡ length bytes
+unfolding put_byte
+length-put_byte bytes o v = length-set bytes o _
+
+length-put_half : (bytes : List ℕ) (o v : ℕ) → length (put_half bytes o v) ≡ length bytes
+unfolding put_half
+length-put_half bytes o v = length-set _ (o + 1) _ ∙ length-set bytes o _
+
+pub length-put_number : (size : ℕ) (bytes : List ℕ) (o v : ℕ) → length (put_number size bytes o v) ≡ length bytes
+length-put_number size bytes o v =
+    length_cond (eqb size 4) (put_word bytes o v) _ _ (length-put_word bytes o v) (length_cond (eqb size 2) (put_half bytes o v) _ _ (length-put_half bytes o v) (length-put_byte bytes o v))
 
 -- a byte outside a written word
 pub byte_outside : (row : List ℕ) (o p v : ℕ) → (p < o) ⊎ (o + 4 ≤ p) → slice_index (put_word row o v) p ≡ slice_index row p

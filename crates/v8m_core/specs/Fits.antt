@@ -1,5 +1,5 @@
 -- States that a processor can hold: each number fits where it stands.
-use Rattle.std.specs.Prelude.{ℕ, ◌<◌}
+use Rattle.std.specs.Prelude.{◌<◌}
 use Rattle.ns_types.specs.declared.state.Regs.{Regs}
 use Rattle.ns_types.specs.declared.state.Cpu.{Cpu}
 use Rattle.ns_types.specs.State.{State}

@@ -1,5 +1,4 @@
 -- The machine when the device is reset (DDI0553, Reset).
-use Rattle.std.specs.Prelude.{ℕ, List}
 use Rattle.ns_types.specs.declared.state.Cpu.{Cpu}
 use Rattle.ns_types.specs.declared.state.Side.TheVariants.{Secure}
 use Rattle.ns_types.specs.declared.turn.Start.{Start}

@@ -1,5 +1,5 @@
 -- One step of the machine: what is fetched, what an instruction does, and the gates between Secure and Non-secure state.
-use Rattle.std.specs.Prelude.{ℕ, ◌+◌, ◌-◌, ◌/◌, ◌%◌, Bool, cond, ◌&&◌, not, eqb, ltb, List, [], ◌∷◌, slice_index, Option, Some, None}
+use Rattle.std.specs.Prelude.{ℕ, ◌+◌, ◌-◌, ◌/◌, ◌%◌, cond, ◌&&◌, not, eqb, ltb, List, [], ◌∷◌, slice_index, Option, Some, None}
 use Rattle.cm_base.specs.declared.stop.Stop.{Stop}
 use Rattle.cm_base.specs.declared.stop.Stop.TheVariants as stop
 use Rattle.v8m_isa.specs.declared.instr.Instr.{Instr}
@@ -11,8 +11,8 @@ use Rattle.ns_types.specs.declared.state.Side.TheVariants.{Secure, NonSecure, St
 use Rattle.ns_types.specs.declared.turn.View.{View}
 use Rattle.ns_types.specs.Turns.{Turn}
 use Rattle.ns_types.specs.State.{Device, set_of, State}
-use Rattle.ns_types.specs.Platform.{row, in_row, lies_in, is_readable, is_writable, is_in_rom, aligned}
-use Rattle.ns_types.specs.Memory.{half_at, load, store}
+use Rattle.ns_types.specs.Platform.{in_row, is_readable, is_writable, is_in_rom, aligned}
+use Rattle.ns_types.specs.Memory.{load, store}
 use Rattle.ns_types.specs.Gateway.{fetched, gateway_at}
 use Rattle.ns_types.specs.Boundary.{function_return, goes_of, acted}
 use Rattle.ns_types.specs.Operators.{add, subtract, to_signed}
