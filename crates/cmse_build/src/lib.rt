@@ -8,6 +8,3 @@ mod load;
 pub use constant::{one_constant, read_constant};
 pub use image::{Gate, write_image};
 pub use load::{ImageFault, load_image};
-
-#[cfg(test)]
-mod tests;

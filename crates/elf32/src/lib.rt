@@ -63,25 +63,3 @@ pub fn put32(to: &mut Bytes, value: u32) -> Result<(), NoMemory>
     let word = value.to_le_bytes();
     to.extend_from_slice(&word)
 }
-
-#[cfg(test)]
-mod tests {
-    use super::*;
-    use std::test::Fail;
-
-    #[test]
-    fn low_byte_first(rt: HostRuntime) -> Result<(), Fail> {
-        let mut bytes = Bytes::new(rt.alloc());
-        put16(&mut bytes, 0x1234)?;
-        put32(&mut bytes, 0x89ab_cdef)?;
-        let want = [0x34, 0x12, 0xef, 0xcd, 0xab, 0x89];
-        assert_eq!(rt; bytes.as_slice(), want.as_slice());
-        assert_eq!(rt; get16(&want, 0), Some(0x1234));
-        assert_eq!(rt; get32(&want, 2), Some(0x89ab_cdef));
-        assert_eq!(rt; get16(&want, 4), Some(0x89ab));
-        assert_eq!(rt; get16(&want, 5), None);
-        assert_eq!(rt; get32(&want, 3), None);
-        assert_eq!(rt; get32(&want, u32::MAX), None);
-        Ok(())
-    }
-}

@@ -2,11 +2,11 @@
 
 ghost use Rattle.std.specs.Prelude.{◌≡◌, IfOk, length};
 
-use v8m_mem::{Memory, can_read, can_write, is_in_ns_ram, is_in_rom, is_nonsecure, is_secure};
 use cm_base::{Bytes, NoMemory, PLATFORM};
 use ns_types::Start;
 use std::alloc::Global;
 use std::test::Fail;
+use v8m_mem::{Memory, can_read, can_write, is_in_ns_ram, is_in_rom, is_nonsecure, is_secure};
 
 fn filled(alloc: Global, n: usize, byte: u8) -> Result<Bytes, NoMemory>
     ensures { IfOk result (λ b. length b ≡ n) }

@@ -2,8 +2,8 @@
 
 ghost use Rattle.std.specs.Prelude.{◌≡◌, IfOk, vec_len};
 
-use ns_turns::run;
 use cm_base::{Bytes, List, NoMemory, Stop};
+use ns_turns::run;
 use ns_types::{End, Event, Item, Start, Turn, View};
 use std::alloc::Global;
 use std::test::Fail;

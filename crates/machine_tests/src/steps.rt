@@ -2,11 +2,11 @@
 
 ghost use Rattle.std.specs.Prelude.{◌≡◌, IfOk, vec_len};
 
-use v8m_core::{Image, Machine, Stepped};
 use cm_base::{Bytes, List, NoMemory, Stop};
 use ns_types::{Item, Side, Start, Turn, View};
 use std::alloc::Global;
 use std::test::Fail;
+use v8m_core::{Image, Machine, Stepped};
 
 fn filled(alloc: Global, n: usize, byte: u8) -> Result<Vec<u8>, NoMemory>
     ensures { IfOk result (λ b. vec_len b ≡ n) }

@@ -14,6 +14,3 @@ mod turn;
 pub use fault::ScriptFault;
 pub use script::read_script;
 pub use transcript::print_events;
-
-#[cfg(test)]
-mod tests;

@@ -1,8 +1,8 @@
 //! Texts and what they are parsed as. The answers are worked out from the rules of the language.
 
-use c_parse::{SyntaxFault, parse};
 use c_ast::{Expr, External, Item, Stmt, Unit};
 use c_lex::{MAX_SOURCE, lex};
+use c_parse::{SyntaxFault, parse};
 use std::alloc::{AllocError, Global};
 use std::test::Fail;
 

@@ -1,6 +1,6 @@
 use Rattle.std.proofs.Common.{◌≤◌, ◌+◌, length, ap, arith}
 use Rattle.cmse_build.proofs.Ready.{image_ready}
-use Rattle.cmse_build.proofs.tests.image_of.Goals as goal
+use Rattle.file_tests.proofs.images.image_of.Goals as goal
 
 pub write_image-requires : goal.write_image-requires
 write_image-requires c =

@@ -3,8 +3,8 @@
 ghost use Rattle.std.specs.Prelude.{◌≡◌, ◌≤◌, true, length, IfOk};
 ghost use Rattle.cmse_build.specs.Constant.{is_entry_name};
 
-use crate::{Gate, ImageFault, load_image, read_constant, write_image};
 use cm_base::{Bytes, List, NoMemory, Text};
+use cmse_build::{Gate, ImageFault, load_image, read_constant, write_image};
 use elf32::get32;
 use import_lib::write_implib;
 use ns_types::{Veneer, Veneers};

@@ -1,5 +1,5 @@
-use crate::{ScriptFault, print_events, read_script};
 use cm_base::{List, Stop};
+use ns_script::{ScriptFault, print_events, read_script};
 use ns_types::{End, Event, Events, Item, View};
 use std::alloc::Global;
 use std::test::Fail;
