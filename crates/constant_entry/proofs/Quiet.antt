@@ -21,7 +21,7 @@ use Rattle.ns_types.specs.Boundary.{acted, reset_address}
 use Rattle.ns_types.specs.CRun.{World}
 use Rattle.v8m_core.specs.declared.stepped.Stepped.{Stepped}
 use Rattle.v8m_core.specs.declared.stepped.Stepped.TheVariants as what
-use Rattle.v8m_core.specs.Step.{Done, went, stopped, unless, seen, handed, entered, turned, goes_in, arrived, return_to, bxns, effect_of, apply, step_of, turn_of}
+use Rattle.v8m_core.specs.Step.{Done, went, stopped, or_stopped, seen, handed, entered, with_turn, goes_in, arrived, return_to, bxns, effect_of, apply, step_of, turn_of}
 use Rattle.v8m_core.specs.Code.{Holds, HasCode, Does}
 use Rattle.v8m_core.specs.Reset.{reset_of}
 use Rattle.v8m_core.proofs.Runs.{does, stays, has_front, has_back}
@@ -176,9 +176,9 @@ module _ (device : Device) (n : ℕ) (h : GivesConstant device n) where
         a = aligned 2 t.target
 
         u : State
-        u = turned t (acted t.items s.memory.ns_ram).ram s
+        u = with_turn t (acted t.items s.memory.ns_ram).ram s
 
-        by : (o : Option Stop) → AllTell device m ts (unless o u (arrived device (goes_in device t.target) a what.Went u)).state
+        by : (o : Option Stop) → AllTell device m ts (or_stopped o u (arrived device (goes_in device t.target) a what.Went u)).state
         by (Some x) = all_over device m ts (stopped x u).state x refl
         by None = subst (λ g. AllTell device m ts (arrived device g a what.Went u).state) (sym (goes_in_is device n h t.target)) (arrival (eqb a first_veneer) a refl what.Went u (record { sp = q.sp; seal = q.seal }))
 

@@ -30,7 +30,7 @@ use Rattle.ns_types.specs.Show.{show, shown_of, given_if, events_shown}
 use Rattle.ns_types.proofs.ShowLaws.{events_append}
 use Rattle.v8m_core.specs.declared.stepped.Stepped.{Stepped}
 use Rattle.v8m_core.specs.declared.stepped.Stepped.TheVariants as what
-use Rattle.v8m_core.specs.Step.{Done, went, stopped, unless, seen, handed, entered, returned, turned, turn_of, return_stop, return_to, arrived, bxns, goes_in, effect_of, apply}
+use Rattle.v8m_core.specs.Step.{Done, went, stopped, or_stopped, seen, handed, entered, returned, with_turn, turn_of, return_stop, return_to, arrived, bxns, goes_in, effect_of, apply}
 use Rattle.v8m_core.specs.Code.{Comes}
 use Rattle.ns_turns.specs.Run as m
 use Rattle.ns_turns.specs.Run.{ends, after, event_of}
@@ -63,7 +63,7 @@ return_quiet device s w q =
     (cond (not (eqb (x % 512) 0)) (Some stop.ReturnFault)
     (cond (not (is_in_rom (aligned 2 (load 4 p device s.memory)))) (Some stop.BadState) None))) in
     let at_sp : return_stop device s ≡ test main_seal (word_at s.memory.secure_ram (ram_place (main_seal + 4))) = ap (λ p. test p (load 4 (p + 4) device s.memory)) q.sp in
-    ap (λ o. unless o s (went (returned (aligned 2 (load 4 s.cpu.regs.sp device s.memory)) s))) (at_sp ∙ ap (test main_seal) q.seal)
+    ap (λ o. or_stopped o s (went (returned (aligned 2 (load 4 s.cpu.regs.sp device s.memory)) s))) (at_sp ∙ ap (test main_seal) q.seal)
 
 -- where a branch goes that is at no entry
 pub outside_cases : (P : Goes → Type 0) → P goes.Return → P goes.Turn → P goes.EntryPoint → P goes.Astray → (a : ℕ) → P (goes_outside a)
@@ -318,11 +318,11 @@ module _ (device : Device) (n : ℕ) (h : GivesConstant device n) (turns deep fu
 
 -- a turn whose items and branch are known
 turn_is : (device : Device) (n : ℕ) → GivesConstant device n → (t : Turn) (s : State) (ram : List ℕ) (d : Done) → s.memory.ns_ram ≡ ram
-    → (let after = acted t.items ram in let u = turned t after.ram s in unless after.stop u (arrived device (goes_m (eqb (aligned 2 t.target) first_veneer) (aligned 2 t.target)) (aligned 2 t.target) what.Went u)) ≡ d → turn_of device t s ≡ d
+    → (let after = acted t.items ram in let u = with_turn t after.ram s in or_stopped after.stop u (arrived device (goes_m (eqb (aligned 2 t.target) first_veneer) (aligned 2 t.target)) (aligned 2 t.target) what.Went u)) ≡ d → turn_of device t s ≡ d
 unfolding turn_of
 turn_is device n h t s ram d same e =
-    ap (λ r. let after = acted t.items r in let u = turned t after.ram s in unless after.stop u (arrived device (goes_in device t.target) (aligned 2 t.target) what.Went u)) same
-    ∙ ap (λ g. let after = acted t.items ram in let u = turned t after.ram s in unless after.stop u (arrived device g (aligned 2 t.target) what.Went u)) (goes_in_is device n h t.target)
+    ap (λ r. let after = acted t.items r in let u = with_turn t after.ram s in or_stopped after.stop u (arrived device (goes_in device t.target) (aligned 2 t.target) what.Went u)) same
+    ∙ ap (λ g. let after = acted t.items ram in let u = with_turn t after.ram s in or_stopped after.stop u (arrived device g (aligned 2 t.target) what.Went u)) (goes_in_is device n h t.target)
     ∙ e
 
 -- a turn that shows nothing itself
@@ -362,19 +362,19 @@ phase_plays device n h turns deep (suc fuel) (t ∷ ts) entries events peak memo
 
     by_stop : (acts : Acted) → acted t.items memory.ns_ram ≡ acts → (o : Option Stop) → acts.stop ≡ o → Phases device n h turns deep fuel → Plays (λ k. m.run_of device k (t ∷ ts) s) [] w least (let u = crun.turned t ts acts.ram w in stop_or o u (chain enters_first (gives n deep) (phase enters_first (gives n deep) turns fuel) turns (aligned 2 t.lr) (kept_of t) (turns * suc fuel) (goes_of enters_first t.target) (take 4 t.r) u))
     by_stop acts e (Some x) f phases =
-        let u = turned t acts.ram s in
+        let u = with_turn t acts.ram s in
         let v = crun.turned t ts acts.ram w in
         let p = stop_plays device ts x u v least in
-        let step : turn_of device t s ≡ stopped x u = turn_is device n h t s memory.ns_ram (stopped x u) q.ram (ap (λ (y : Acted). unless y.stop (turned t y.ram s) (arrived device (goes_m b a) a what.Went (turned t y.ram s))) e ∙ ap (λ y. unless y u (arrived device (goes_m b a) a what.Went u)) f) in
+        let step : turn_of device t s ≡ stopped x u = turn_is device n h t s memory.ns_ram (stopped x u) q.ram (ap (λ (y : Acted). or_stopped y.stop (with_turn t y.ram s) (arrived device (goes_m b a) a what.Went (with_turn t y.ram s))) e ∙ ap (λ y. or_stopped y u (arrived device (goes_m b a) a what.Went u)) f) in
         let runs = run_turn device p.n t ts s (stopped x u) side step in
         record { more = p.more; n = suc p.n; events = p.events; list = ap (λ (y : Events). y.list) runs ∙ p.list; ended = λ ne. ap (λ (y : Events). y.end) runs ∙ p.ended ne; spent = λ y. let r = p.spent y in (ap (λ (y : Events). y.end) runs ∙ r.0, omega arith) }
     by_stop acts e None f phases =
-        let u = turned t acts.ram s in
+        let u = with_turn t acts.ram s in
         let v = crun.turned t ts acts.ram w in
         let d = arrived device (goes_m b a) a what.Went u in
         let p0 = arrives device n h turns deep fuel phases (turns * suc fuel) b a refl (aligned 2 t.lr) (kept_of t) (take 4 t.r) what.Went u v least (omega arith) (first_entry least turns few) few_deep (entries_left least turns fuel few) (record { sp = q.sp; seal = q.seal; ram = refl; msp = refl; psp = refl }) refl refl in
         let p = subst (λ g. Plays (λ k. after_of d k) (shows_at what.Went g) v least (chain enters_first (gives n deep) (phase enters_first (gives n deep) turns fuel) turns (aligned 2 t.lr) (kept_of t) (turns * suc fuel) g (take 4 t.r) v)) (sym (goes_of_is t.target)) p0 in
-        let step : turn_of device t s ≡ d = turn_is device n h t s memory.ns_ram d q.ram (ap (λ (y : Acted). unless y.stop (turned t y.ram s) (arrived device (goes_m b a) a what.Went (turned t y.ram s))) e ∙ ap (λ y. unless y u (arrived device (goes_m b a) a what.Went u)) f) in
+        let step : turn_of device t s ≡ d = turn_is device n h t s memory.ns_ram d q.ram (ap (λ (y : Acted). or_stopped y.stop (with_turn t y.ram s) (arrived device (goes_m b a) a what.Went (with_turn t y.ram s))) e ∙ ap (λ y. or_stopped y u (arrived device (goes_m b a) a what.Went u)) f) in
         let runs = run_turn device p.n t ts s d side step in
         record { more = p.more; n = suc p.n; events = p.events; list = ap (λ (y : Events). y.list) runs ∙ p.list ∙ ap (λ l. l ++ events_shown (show enters_first p.more)) (shows_nothing (goes_of enters_first t.target)); ended = λ ne. ap (λ (y : Events). y.end) runs ∙ p.ended ne; spent = λ y. let r = p.spent y in (ap (λ (y : Events). y.end) runs ∙ r.0, omega arith) }
 

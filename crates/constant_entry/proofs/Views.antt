@@ -15,8 +15,8 @@ use Rattle.ns_types.specs.Memory.{word_at}
 use Rattle.ns_types.specs.Boundary.{reset_address}
 use Rattle.v8m_core.specs.declared.stepped.Stepped.TheVariants as what
 use Rattle.ns_types.specs.Gateway.{fetched, sg_half, is_gateway}
-use Rattle.v8m_core.specs.Step.{Done, went, seen, handed, entered, turned, step_of, bxns, effect_of, apply}
-use Rattle.v8m_core.specs.Values.{sum32}
+use Rattle.v8m_core.specs.Step.{Done, went, seen, handed, entered, with_turn, step_of, bxns, effect_of, apply}
+use Rattle.ns_types.specs.Operators.{add}
 use Rattle.v8m_core.specs.Code.{Holds, HasCode, Comes}
 use Rattle.v8m_core.specs.Reset.{reset_of}
 use Rattle.ns_turns.specs.Run.{after, run_of, machine_run}
@@ -34,7 +34,7 @@ unfolding effect_of apply
 leaves device s v h e in_row even = does device s (Bxns 14) h ∙ ap (λ x. bxns device x s) e ∙ bxns_hands device v s in_row even
 
 -- a branch
-pub branches : (device : Device) (s : State) (off to : ℕ) → Holds device s.cpu.pc (B off) → sum32 (s.cpu.pc + 4) off ≡ to → step_of device s ≡ went (record s { cpu = record s.cpu { pc = to } })
+pub branches : (device : Device) (s : State) (off to : ℕ) → Holds device s.cpu.pc (B off) → add (s.cpu.pc + 4) off ≡ to → step_of device s ≡ went (record s { cpu = record s.cpu { pc = to } })
 unfolding effect_of apply
 branches device s off to h e = does device s (B off) h ∙ ap (λ p. went (record s { cpu = record s.cpu { pc = p } })) e
 
@@ -78,7 +78,7 @@ answers : (device : Device) (n : ℕ) (h : GivesConstant device n) (t : Turn) (t
 unfolding size_of
 answers device n h t ts s k calls side =
     let target : aligned 2 t.target ≡ first_veneer = ⊎_elim (λ e. ap (aligned 2) e) (λ e. ap (aligned 2) e) calls.target in
-    let u2 = entered first_veneer (turned t s.memory.ns_ram s) in
+    let u2 = entered first_veneer (with_turn t s.memory.ns_ram s) in
     let u3 : State = record u2 { cpu = record u2.cpu { pc = entry_place } } in
     let t2 = answering n u3 in
     let v = aligned 2 t.lr in

@@ -52,4 +52,5 @@ pub record ShowsConstant (device : Device) (n : ℕ) : Type 0 where
 -- No event of a run of the machine is a stop that only a machine has.
 abbrev pub AlwaysClean : Device → Type 0
 AlwaysClean device =
-    (start : Start) → IsStart start → (ts : List Turn) → AreTurns ts → (k : ℕ) → is_clean (machine_run device start ts k).list ≡ true
+    (start : Start) → IsStart start → (ts : List Turn) → AreTurns ts → (k : ℕ)
+    → is_clean (machine_run device start ts k).list ≡ true

@@ -29,9 +29,12 @@ pub fn first_hand_over()
 
 /// The machine does what the program does, and nothing else.
 pub fn refinement()
-    ensures does { (name : List ℕ) (n : ℕ) → n < 2 ^ 32 → Refines (constant_device n) (enters_one name) (constant_run (enters_one name) n) }
-    ensures only { (name : List ℕ) (n : ℕ) → n < 2 ^ 32 → Only (constant_device n) (enters_one name) (constant_run (enters_one name) n) }
-    ensures declared { (name : List ℕ) (n : ℕ) → n < 2 ^ 32 → OnlyDeclared (constant_device n) (enters_one name) (constant_run (enters_one name) n) }
+    ensures does { (name : List ℕ) (n : ℕ) → n < 2 ^ 32
+        → Refines (constant_device n) (enters_one name) (constant_run (enters_one name) n) }
+    ensures only { (name : List ℕ) (n : ℕ) → n < 2 ^ 32
+        → Only (constant_device n) (enters_one name) (constant_run (enters_one name) n) }
+    ensures declared { (name : List ℕ) (n : ℕ) → n < 2 ^ 32
+        → OnlyDeclared (constant_device n) (enters_one name) (constant_run (enters_one name) n) }
 {}
 
 /// Secure code never stops as only a machine does.
@@ -41,7 +44,8 @@ pub fn clean()
 
 /// Two starts of which the program declares the same look the same to the caller.
 pub fn two_worlds()
-    ensures { (name : List ℕ) (n : ℕ) → n < 2 ^ 32 → TwoWorlds (constant_device n) (enters_one name) (constant_run (enters_one name) n) }
+    ensures { (name : List ℕ) (n : ℕ) → n < 2 ^ 32
+        → TwoWorlds (constant_device n) (enters_one name) (constant_run (enters_one name) n) }
 {}
 
 /// No event depends on what Secure memory holds when the device is reset.
@@ -52,11 +56,13 @@ pub fn unseen()
 /// In every run Non-secure RAM at each hand-over is what the start, the turns and the events before make of it: no
 /// instruction stacks a word there.
 pub fn known_ram()
-    ensures tells { (n : ℕ) → n < 2 ^ 32 → (start : Start) → IsStart start → (ts : List Turn) (k : ℕ) → AllTell (constant_device n) k ts (reset_of (constant_device n) start) }
+    ensures tells { (n : ℕ) → n < 2 ^ 32 → (start : Start) → IsStart start → (ts : List Turn) (k : ℕ)
+        → AllTell (constant_device n) k ts (reset_of (constant_device n) start) }
     ensures ram { (name : List ℕ) (n : ℕ) → n < 2 ^ 32 → AlwaysKnowsRam (constant_device n) (enters_one name) }
 {}
 
 /// A larger bound only lets the program go further.
 pub fn larger_bound()
-    ensures { (enters : ℕ → Option ℕ) (n : ℕ) (start : Start) (ts : List Turn) (a b : Bound) → IsWithin a b → Extends (constant_run enters n start ts a) (constant_run enters n start ts b) }
+    ensures { (enters : ℕ → Option ℕ) (n : ℕ) (start : Start) (ts : List Turn) (a b : Bound) → IsWithin a b
+        → Extends (constant_run enters n start ts a) (constant_run enters n start ts b) }
 {}

@@ -17,41 +17,41 @@ use Rattle.ns_types.specs.Counters.{IsEnough, GoesOnTo, GoesOn, OnlyGoOn, run_by
 
 -- What only goes on
 
-stays : (w : World) → GoesOnTo w w
+pub stays : (w : World) → GoesOnTo w w
 stays w = record { turns = omega arith; entries = λ e. omega arith }
 
-later_than : (w u v : World) → GoesOnTo w u → GoesOnTo u v → GoesOnTo w v
+pub later_than : (w u v : World) → GoesOnTo w u → GoesOnTo u v → GoesOnTo w v
 later_than w u v f g = record { turns = omega (f.turns, g.turns, arith); entries = λ e. by (omega (f.turns, g.turns, e, arith)) (omega (f.turns, g.turns, e, arith)) }
   where
     by : length u.turns ≡ length w.turns → length v.turns ≡ length u.turns → w.entries ≤ v.entries
     by a b = let x = f.entries a in let y = g.entries b in omega arith
 
-after_counted : (w u : World) → GoesOnTo (counted w) u → GoesOnTo w u
+pub after_counted : (w u : World) → GoesOnTo (counted w) u → GoesOnTo w u
 after_counted w u f = record { turns = f.turns; entries = λ e. let x = f.entries e in omega arith }
 
 -- what an earlier world can go on to
-earlier : (w u : World) (o : Outcome) → GoesOnTo w u → GoesOn u o → GoesOn w o
+pub earlier : (w u : World) (o : Outcome) → GoesOnTo w u → GoesOn u o → GoesOn w o
 earlier w u (Gave x v) f g = record { by = later_than w u v f g.by }
 earlier w u (Over e v) f g = record { by = tt }
 
-on_then : (w : World) (o : Outcome) (f : ℕ → World → Outcome) → GoesOn w o → ((x : ℕ) (u : World) → GoesOn u (f x u)) → GoesOn w (then_go o f)
+pub on_then : (w : World) (o : Outcome) (f : ℕ → World → Outcome) → GoesOn w o → ((x : ℕ) (u : World) → GoesOn u (f x u)) → GoesOn w (then_go o f)
 on_then w (Gave x u) f a g = earlier w u (f x u) a.by (g x u)
 on_then w (Over e u) f a g = a
 
-on_cond : (w : World) (b : Bool) (x y : Outcome) → GoesOn w x → GoesOn w y → GoesOn w (cond b x y)
+pub on_cond : (w : World) (b : Bool) (x y : Outcome) → GoesOn w x → GoesOn w y → GoesOn w (cond b x y)
 on_cond w true x y f g = f
 on_cond w false x y f g = g
 
-on_take : (w : World) (a : Outcome) (f : Turn → List Turn → Outcome) (ts : List Turn) → GoesOn w a → ((t : Turn) (rest : List Turn) → ts ≡ t ∷ rest → GoesOn w (f t rest)) → GoesOn w (take_turn a f ts)
+pub on_take : (w : World) (a : Outcome) (f : Turn → List Turn → Outcome) (ts : List Turn) → GoesOn w a → ((t : Turn) (rest : List Turn) → ts ≡ t ∷ rest → GoesOn w (f t rest)) → GoesOn w (take_turn a f ts)
 on_take w a f [] x y = x
 on_take w a f (t ∷ ts) x y = y t ts refl
 
-on_or : (w : World) (o : Option Stop) (u : World) (rest : Outcome) → GoesOn w rest → GoesOn w (stop_or o u rest)
+pub on_or : (w : World) (o : Option Stop) (u : World) (rest : Outcome) → GoesOn w rest → GoesOn w (stop_or o u rest)
 on_or w None u rest x = x
 on_or w (Some y) u rest x = record { by = tt }
 
 -- after a turn there is one less
-turn_taken : (t : Turn) (rest : List Turn) (ram : List ℕ) (w : World) → w.turns ≡ t ∷ rest → GoesOnTo w (turned t rest ram w)
+pub turn_taken : (t : Turn) (rest : List Turn) (ram : List ℕ) (w : World) → w.turns ≡ t ∷ rest → GoesOnTo w (turned t rest ram w)
 turn_taken t rest ram w e = let x = ap length e in record { turns = omega (x, arith); entries = λ s. absurd (omega (x, s, arith)) }
 
 -- How much is enough

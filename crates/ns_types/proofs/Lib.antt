@@ -1,4 +1,5 @@
 mod Values
+mod WorkedRows
 pub mod TurnLaws
 pub mod Ranges
 pub mod BoundLaws

@@ -23,11 +23,11 @@ abbrev pub negate : ℕ → ℕ
 negate a = subtract 0 a
 
 abbrev pub complement : ℕ → ℕ
-complement a = 4294967295 - a
+complement a = 0xFFFFFFFF - a
 
 -- a signed value is below 0
 abbrev pub is_negative : ℕ → Bool
-is_negative a = not (ltb a 2147483648)
+is_negative a = not (ltb a 0x80000000)
 
 abbrev pub magnitude : ℕ → ℕ
 magnitude a = cond (is_negative a) (negate a) a
@@ -69,7 +69,7 @@ truth holds = cond holds 1 0
 
 -- signed values in the order of numbers: the one that is least becomes 0
 abbrev pub from_least : ℕ → ℕ
-from_least a = add a 2147483648
+from_least a = add a 0x80000000
 
 abbrev pub equal : ℕ → ℕ → ℕ
 equal a b = truth (eqb a b)

@@ -36,4 +36,4 @@ if_asked p flags (Some k) = cond (has_asked flags k) p 0
 -- the last address, no one row holds all of it, or its row hasn't what the flags ask.
 unfoldable pub checked_range : ℕ → ℕ → ℕ → ℕ
 checked_range p n flags =
-    cond (ltb 31 flags || ltb 4294967295 (p + max n 1 - 1)) 0 (if_asked p flags (row_of_all p (max n 1)))
+    cond (ltb 31 flags || ltb 0xFFFFFFFF (p + max n 1 - 1)) 0 (if_asked p flags (row_of_all p (max n 1)))

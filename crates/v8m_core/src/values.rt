@@ -11,11 +11,7 @@ pub fn signed_byte(a: u32) -> u32
     ensures { result ≡ to_signed 1 a }
 {
     let low = a % 0x100;
-    if low < 0x80 {
-        low
-    } else {
-        low + 0xFFFF_FF00
-    }
+    if low < 0x80 { low } else { low + 0xFFFF_FF00 }
 }
 
 /// The low halfword with its sign, in 32 bits.
@@ -23,11 +19,7 @@ pub fn signed_half(a: u32) -> u32
     ensures { result ≡ to_signed 2 a }
 {
     let low = a % 0x1_0000;
-    if low < 0x8000 {
-        low
-    } else {
-        low + 0xFFFF_0000
-    }
+    if low < 0x8000 { low } else { low + 0xFFFF_0000 }
 }
 
 /// The low 1 or 2 bytes with their sign, in 32 bits.
