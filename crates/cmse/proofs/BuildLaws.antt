@@ -139,3 +139,10 @@ entry_word n = refl
 pub same_rom : (n : ℕ) (rom region : List ℕ) → rom ≡ used_bytes n → region ≡ gateway_bytes → (rom ++ zeros (rom_used_most - length rom)) ++ region ≡ rom_bytes n
 unfolding zeros
 same_rom n rom region e f = ap (λ r. (r ++ zeros (rom_used_most - length r)) ++ region) e ∙ ap (λ r. (used_bytes n ++ zeros (rom_used_most - length (used_bytes n))) ++ r) f
+
+-- the file that is written is that of these bytes and this name
+pub same_file : (n : ℕ) (rom region name given : List ℕ) → rom ≡ used_bytes n → region ≡ gateway_bytes → name ≡ given → image_of (start_place + 1) rom region (one_gate name) ≡ image_of (start_place + 1) (used_bytes n) gateway_bytes (one_gate given)
+same_file n rom region name given e f g =
+    ap (λ r. image_of (start_place + 1) r region (one_gate name)) e
+    ∙ ap (λ r. image_of (start_place + 1) (used_bytes n) r (one_gate name)) f
+    ∙ ap (λ l. image_of (start_place + 1) (used_bytes n) gateway_bytes (one_gate l)) g
