@@ -1,5 +1,5 @@
 -- From what was read, made and written to how the command ends.
-use Rattle.std.proofs.Common.{◌≡◌, ◌≢◌, ℕ, ◌+◌, ◌-◌, ◌<◌, ◌≤◌, ◌⊎◌, Bool, true, List, [], ◌∷◌, ◌++◌, length, take, codes, refl, sym, ap, ◌∙◌, subst, ⊎_elim, inl, inr, arith, Option, Some, None, IsSome, is_some, Ok, option_map, length-append}
+use Rattle.std.proofs.Common.{◌≡◌, ◌≢◌, ℕ, ◌+◌, ◌-◌, ◌<◌, ◌≤◌, ◌⊎◌, true, List, [], ◌∷◌, ◌++◌, length, take, codes, refl, sym, ap, ◌∙◌, subst, ⊎_elim, inl, inr, arith, Option, Some, None, IsSome, is_some, Ok, option_map, length-append}
 use Rattle.std.specs.Fmt.{decimal}
 use Rattle.std.proofs.lemmas.Fmt.{length-decimal-le}
 use Rattle.std.proofs.lemmas.List.{take_all, length-take}
@@ -16,10 +16,10 @@ use Rattle.constant_entry.proofs.Placed.{gives_constant}
 use Rattle.constant_entry.proofs.Views.{shows_constant}
 use Rattle.constant_entry.proofs.OneEntry.{refines_one, only_one, worlds_one, ram_one, unseen_one, clean_one, sealed_one}
 use Rattle.cmse.specs.declared.status.Status.{Status}
-use Rattle.cmse.specs.declared.status.Status.TheVariants.{Done, Refused, BadWords, CannotRead, CannotWrite, NoMemory, BadInput}
-use Rattle.cmse.specs.Files.{FilesChange, FilesStay, OthersThanStay}
+use Rattle.cmse.specs.declared.status.Status.TheVariants.{Done, Refused, CannotRead, CannotWrite, NoMemory}
+use Rattle.cmse.specs.Files.{FilesChange, FilesStay}
 use Rattle.cmse.specs.Build.{one_gate, Builds, IsOther, BuildEnds}
-use Rattle.cmse.specs.Steps.{Holds, IsReadFault, Delivers, IsRefusalOf}
+use Rattle.cmse.specs.Steps.{IsReadFault, Delivers, IsRefusalOf}
 
 -- what is built from a text of the form
 pub builds : (text name lib img : List ℕ) (n : ℕ) → IsConstant text name n → lib ≡ library_of (one_veneer name) → img ≡ image_of (start_place + 1) (used_bytes n) gateway_bytes (one_gate name) → rom_of_image img ≡ Ok (rom_bytes n) → Builds text lib img
