@@ -1,5 +1,5 @@
 -- From what was read, made and written to how the command ends.
-use Rattle.std.proofs.Common.{◌≡◌, ◌≢◌, ℕ, ◌+◌, ◌-◌, ◌<◌, ◌≤◌, ◌⊎◌, Bool, true, List, [], ◌∷◌, ◌++◌, length, take, codes, refl, sym, ap, ◌∙◌, subst, ⊎_elim, inl, inr, arith, Option, Some, None, IsSome, is_some, Ok, option_map, length-append}
+use Rattle.std.proofs.Common.{◌≡◌, ◌≢◌, ℕ, ◌+◌, ◌-◌, ◌<◌, ◌≤◌, ◌⊎◌, true, List, [], ◌∷◌, ◌++◌, length, take, codes, refl, sym, ap, ◌∙◌, subst, ⊎_elim, inl, inr, arith, Option, Some, None, IsSome, is_some, Ok, option_map, length-append}
 use Rattle.std.specs.Fmt.{decimal}
 use Rattle.std.proofs.lemmas.Fmt.{length-decimal-le}
 use Rattle.std.proofs.lemmas.List.{take_all, length-take}
@@ -16,10 +16,10 @@ use Rattle.constant_entry.proofs.Placed.{gives_constant}
 use Rattle.constant_entry.proofs.Views.{shows_constant}
 use Rattle.constant_entry.proofs.OneEntry.{refines_one, only_one, worlds_one, ram_one, unseen_one, clean_one, sealed_one}
 use Rattle.cmse.specs.declared.status.Status.{Status}
-use Rattle.cmse.specs.declared.status.Status.TheVariants.{Done, Refused, BadWords, CannotRead, CannotWrite, NoMemory, BadInput}
-use Rattle.cmse.specs.Files.{FilesChange, FilesStay, OthersThanStay}
+use Rattle.cmse.specs.declared.status.Status.TheVariants.{Done, Refused, CannotRead, CannotWrite, NoMemory}
+use Rattle.cmse.specs.Files.{FilesChange, FilesStay}
 use Rattle.cmse.specs.Build.{one_gate, Builds, IsOther, BuildEnds}
-use Rattle.cmse.specs.Steps.{Holds, IsReadFault, Delivers, IsRefusalOf}
+use Rattle.cmse.specs.Steps.{IsReadFault, Delivers, IsRefusalOf}
 
 -- what is built from a text of the form
 pub builds : (text name lib img : List ℕ) (n : ℕ) → IsConstant text name n → lib ≡ library_of (one_veneer name) → img ≡ image_of (start_place + 1) (used_bytes n) gateway_bytes (one_gate name) → rom_of_image img ≡ Ok (rom_bytes n) → Builds text lib img
@@ -139,3 +139,10 @@ entry_word n = refl
 pub same_rom : (n : ℕ) (rom region : List ℕ) → rom ≡ used_bytes n → region ≡ gateway_bytes → (rom ++ zeros (rom_used_most - length rom)) ++ region ≡ rom_bytes n
 unfolding zeros
 same_rom n rom region e f = ap (λ r. (r ++ zeros (rom_used_most - length r)) ++ region) e ∙ ap (λ r. (used_bytes n ++ zeros (rom_used_most - length (used_bytes n))) ++ r) f
+
+-- the file that is written is that of these bytes and this name
+pub same_file : (n : ℕ) (rom region name given : List ℕ) → rom ≡ used_bytes n → region ≡ gateway_bytes → name ≡ given → image_of (start_place + 1) rom region (one_gate name) ≡ image_of (start_place + 1) (used_bytes n) gateway_bytes (one_gate given)
+same_file n rom region name given e f g =
+    ap (λ r. image_of (start_place + 1) r region (one_gate name)) e
+    ∙ ap (λ r. image_of (start_place + 1) (used_bytes n) r (one_gate name)) f
+    ∙ ap (λ l. image_of (start_place + 1) (used_bytes n) gateway_bytes (one_gate l)) g

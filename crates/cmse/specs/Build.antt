@@ -1,6 +1,6 @@
 -- What the command `build` makes of a source, and how it ends.
-use Rattle.std.specs.Prelude.{◌≡◌, ℕ, ◌+◌, ◌⊎◌, List, [], ◌∷◌, Option, Some, IsSome, Result, Ok}
-use Rattle.cm_base.specs.Outside.{Files, held, IsMissing, OthersStay}
+use Rattle.std.specs.Prelude.{◌≡◌, ℕ, ◌+◌, ◌⊎◌, List, [], ◌∷◌, Some, IsSome, Ok}
+use Rattle.cm_base.specs.Outside.{held, IsMissing, OthersStay}
 use Rattle.cm_base.specs.declared.place.Refusal.{Refusal}
 use Rattle.cm_base.specs.declared.place.Refusal.TheVariants.{At}
 use Rattle.ns_types.specs.State.{Device}

@@ -7,7 +7,7 @@ use Rattle.ns_script.specs.Script.{script_of}
 use Rattle.ns_script.specs.Transcript.{transcript_of}
 use Rattle.ns_types.specs.State.{device_of}
 use Rattle.ns_turns.specs.Run.{machine_run}
-use Rattle.cmse.specs.Files.{FilesChange, OutputChange, Change, OutputStays}
+use Rattle.cmse.specs.Files.{FilesChange, Change, OutputStays}
 use Rattle.cmse.specs.declared.status.Status.{Status}
 use Rattle.cmse.specs.declared.status.Status.TheVariants.{Done, CannotRead, CannotWrite, NoMemory, BadInput}
 

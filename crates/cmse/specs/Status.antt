@@ -26,7 +26,7 @@ hex_digit d = if nat_lt d 10 then 48 + d else 87 + d
 -- eight hexadecimal digits in lower case
 unfoldable pub address_text : ℕ → List ℕ
 address_text address =
-    map (λ place. hex_digit (address / place % 16)) (268435456 ∷ 16777216 ∷ 1048576 ∷ 65536 ∷ 4096 ∷ 256 ∷ 16 ∷ 1 ∷ [])
+    map (λ place. hex_digit (address / place % 16)) (0x10000000 ∷ 0x1000000 ∷ 0x100000 ∷ 0x10000 ∷ 0x1000 ∷ 0x100 ∷ 0x10 ∷ 1 ∷ [])
 
 abbrev pub refusal_text : Refusal → List ℕ
 refusal_text (At code file line col) =

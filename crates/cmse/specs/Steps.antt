@@ -1,13 +1,31 @@
 -- What the steps of the commands do. No clause of the whole program speaks of it.
-use Rattle.std.specs.Prelude.{◌≡◌, ℕ, ◌⊎◌, List, codes, Option, Some, IsSome, Result, Ok, Err}
+use Rattle.std.specs.Prelude.{◌≡◌, ◌≢◌, ℕ, ◌⊎◌, List, codes, Option, Some, IsSome, Result, Ok, Err}
 use Rattle.cm_base.specs.Outside.{Files, held, OthersStay, given_more, GrownByPrefix}
+use Rattle.cmse.specs.Words.{Asked, build, run}
 use Rattle.cmse.specs.Files.{OutputChange, OutputStays, OthersThanStay}
 use Rattle.cmse.specs.Build.{refusal_of}
 use Rattle.cmse.specs.Run.{Unfit, in_image, in_script}
+use Rattle.cmse.specs.declared.words.Command.{Command}
+use Rattle.cmse.specs.declared.words.Command.TheVariants.{Build, Run}
 use Rattle.cmse.specs.declared.run.Unplayed.{Unplayed}
 use Rattle.cmse.specs.declared.run.Unplayed.TheVariants as unplayed
 use Rattle.cmse.specs.declared.status.Status.{Status}
 use Rattle.cmse.specs.declared.status.Status.TheVariants.{Done, Refused, CannotRead, CannotWrite, NoMemory, BadInput}
+
+-- what a function found, seen by view, is this answer
+abbrev pub Gives : {X Y : Type 0} → (X → Y) → Result X ℕ → Result Y ℕ → Type 0
+Gives view (Ok x) answer = answer ≡ Ok (view x)
+Gives view (Err k) answer = answer ≡ Err k
+
+-- what a command of the program asks for
+abbrev pub asked_by : Command → Asked
+asked_by (Build image library source) = build image.now library.now source.now
+asked_by (Run steps image script) = run steps image.now script.now
+
+-- the files that a command writes differ
+abbrev pub FilesDiffer : Command → Type 0
+FilesDiffer (Build image library source) = image.now ≢ library.now
+FilesDiffer _ = Unit {0}
 
 -- where the store tells its files, it holds these bytes under this name
 abbrev pub Holds : Option Files → List ℕ → List ℕ → Type 0

@@ -1,10 +1,8 @@
 -- What a list of words asks for.
-use Rattle.std.specs.Prelude.{◌≡◌, ◌≢◌, ℕ, ◌+◌, ◌-◌, ◌*◌, ◌==◌, nat_le, Bool, true, false, not, ◌&&◌, List, [], ◌∷◌, map, codes, length, slice_get, option_and_then, String, Option, Some, None, Result, Ok, Err, if◌then◌else◌}
+use Rattle.std.specs.Prelude.{ℕ, ◌+◌, ◌-◌, ◌*◌, ◌==◌, nat_le, Bool, false, not, ◌&&◌, List, [], ◌∷◌, map, codes, length, slice_get, option_and_then, String, Option, Some, None, Result, Ok, Err, if◌then◌else◌}
 use Rattle.std.specs.String.{string_bytes}
 use Rattle.std.specs.declared.alloc.Global.{Global}
 use Rattle.std.specs.Str.{bytes_eq}
-use Rattle.cmse.specs.declared.words.Command.{Command}
-use Rattle.cmse.specs.declared.words.Command.TheVariants.{Build, Run}
 
 abbrev pub Words : Type 0
 Words = List (List ℕ)
@@ -13,11 +11,6 @@ Words = List (List ℕ)
 pub data Asked : Type 0 where
   build : List ℕ → List ℕ → List ℕ → Asked
   run : ℕ → List ℕ → List ℕ → Asked
-
--- what a function found, seen by view, is this answer
-abbrev pub Gives : {X Y : Type 0} → (X → Y) → Result X ℕ → Result Y ℕ → Type 0
-Gives view (Ok x) answer = answer ≡ Ok (view x)
-Gives view (Err k) answer = answer ≡ Err k
 
 infixl 10 ◌>>=◌
 abbrev pub ◌>>=◌ : {A B : Type 0} → Result A ℕ → (A → Result B ℕ) → Result B ℕ
@@ -122,13 +115,3 @@ asked_of words =
 -- words of the program as their bytes
 abbrev pub texts : List (String Global) → Words
 texts words = map string_bytes words
-
--- a command of the program as what it asks for
-abbrev pub seen : Command → Asked
-seen (Build image library source) = build image.now library.now source.now
-seen (Run steps image script) = run steps image.now script.now
-
--- the files that a command writes differ
-abbrev pub FilesDiffer : Command → Type 0
-FilesDiffer (Build image library source) = image.now ≢ library.now
-FilesDiffer (Run steps image script) = Unit {0}

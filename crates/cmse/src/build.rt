@@ -96,10 +96,10 @@ pub fn build<S: Store>(
 ) -> Status
     requires { image.now ≢ library.now }
     ensures ends { BuildEnds (record {
-        old = S.files store.old;
-        new = S.files store.new;
-        reads = Rose (S.read_faults store.old) (S.read_faults store.new);
-        writes = Rose (S.write_faults store.old) (S.write_faults store.new);
+      old = S.files store.old;
+      new = S.files store.new;
+      reads = Rose (S.read_faults store.old) (S.read_faults store.new);
+      writes = Rose (S.write_faults store.old) (S.write_faults store.new);
     }) image.now library.now source.now result }
     ensures telling_stays { is_some (S.files store.new) ≡ is_some (S.files store.old) }
     ensures reads_only_rise { S.read_faults store.old ≤ S.read_faults store.new }

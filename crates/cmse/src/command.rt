@@ -24,17 +24,17 @@ pub fn cmse_main<S: Store, K: Sink>(
     out: &mut K,
 ) -> Status
     ensures ends { CommandEnds (asked_of (texts words.now)) (record {
-        files = record {
-            old = S.files store.old;
-            new = S.files store.new;
-            reads = Rose (S.read_faults store.old) (S.read_faults store.new);
-            writes = Rose (S.write_faults store.old) (S.write_faults store.new);
-        };
-        output = record {
-            before = K.given out.old;
-            after = K.given out.new;
-            puts = Rose (K.faults out.old) (K.faults out.new);
-        };
+      files = record {
+        old = S.files store.old;
+        new = S.files store.new;
+        reads = Rose (S.read_faults store.old) (S.read_faults store.new);
+        writes = Rose (S.write_faults store.old) (S.write_faults store.new);
+      };
+      output = record {
+        before = K.given out.old;
+        after = K.given out.new;
+        puts = Rose (K.faults out.old) (K.faults out.new);
+      };
     }) result }
     ensures telling_stays { is_some (S.files store.new) ≡ is_some (S.files store.old) }
     ensures reads_only_rise { S.read_faults store.old ≤ S.read_faults store.new }

@@ -112,9 +112,9 @@ fn unfit(alloc: Global, file: &str, at: u32) -> Status
 // Puts the transcript out.
 fn put<K: Sink>(alloc: Global, out: &mut K, text: &[u8]) -> Status
     ensures ends { PutEnds (record {
-        before = K.given out.old;
-        after = K.given out.new;
-        puts = Rose (K.faults out.old) (K.faults out.new);
+      before = K.given out.old;
+      after = K.given out.new;
+      puts = Rose (K.faults out.old) (K.faults out.new);
     }) text.now result }
     ensures puts_only_rise { K.faults out.old ≤ K.faults out.new }
 {
@@ -139,17 +139,17 @@ pub fn run<S: Store, K: Sink>(
     script: &str,
 ) -> Status
     ensures ends { RunEnds (record {
-        files = record {
-            old = S.files store.old;
-            new = S.files store.new;
-            reads = Rose (S.read_faults store.old) (S.read_faults store.new);
-            writes = Rose (S.write_faults store.old) (S.write_faults store.new);
-        };
-        output = record {
-            before = K.given out.old;
-            after = K.given out.new;
-            puts = Rose (K.faults out.old) (K.faults out.new);
-        };
+      files = record {
+        old = S.files store.old;
+        new = S.files store.new;
+        reads = Rose (S.read_faults store.old) (S.read_faults store.new);
+        writes = Rose (S.write_faults store.old) (S.write_faults store.new);
+      };
+      output = record {
+        before = K.given out.old;
+        after = K.given out.new;
+        puts = Rose (K.faults out.old) (K.faults out.new);
+      };
     }) steps image.now script.now result }
     ensures files_stay { S.files store.new ≡ S.files store.old }
     ensures reads_only_rise { S.read_faults store.old ≤ S.read_faults store.new }

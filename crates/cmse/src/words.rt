@@ -1,7 +1,8 @@
 //! The command line.
 ghost use Rattle.std.specs.Prelude.{◌≡◌, ◌≢◌, ◌<◌, IfOk, IfSome};
 ghost use Rattle.std.specs.Option.{option_copied};
-ghost use Rattle.cmse.specs.Words.{texts, word, is_name, is_word, name_at, value_at, differing_at, end_at, options_of, digit, number, number_at, steps_of, build_asked, run_asked, asked_of, FilesDiffer, seen, Gives};
+ghost use Rattle.cmse.specs.Words.{texts, word, is_name, is_word, name_at, value_at, differing_at, end_at, options_of, digit, number, number_at, steps_of, build_asked, run_asked, asked_of};
+ghost use Rattle.cmse.specs.Steps.{Gives, asked_by, FilesDiffer};
 
 /// What a command line asks for, with the names of its files.
 #[derive(Clone, Copy, Debug)]
@@ -172,7 +173,7 @@ fn steps_of(words: &[String]) -> Result<u32, u32>
 
 #[tactic(auto, unfolding(crate::specs::Words::build_asked))]
 fn build_asked(words: &[String]) -> Result<Command<'_>, u32>
-    ensures value { Gives seen result (build_asked (texts words.now)) }
+    ensures value { Gives asked_by result (build_asked (texts words.now)) }
     ensures differ { IfOk result FilesDiffer }
 {
     let (image, library) = options_of(words)?;
@@ -187,7 +188,7 @@ fn build_asked(words: &[String]) -> Result<Command<'_>, u32>
 
 #[tactic(auto, unfolding(crate::specs::Words::run_asked))]
 fn run_asked(words: &[String]) -> Result<Command<'_>, u32>
-    ensures value { Gives seen result (run_asked (texts words.now)) }
+    ensures value { Gives asked_by result (run_asked (texts words.now)) }
     ensures differ { IfOk result FilesDiffer }
 {
     let steps = steps_of(words)?;
@@ -205,7 +206,7 @@ fn run_asked(words: &[String]) -> Result<Command<'_>, u32>
 /// word that no command allows there, or the number after the last word where words are missing.
 #[tactic(auto, unfolding(crate::specs::Words::asked_of))]
 pub fn read_words(words: &[String]) -> Result<Command<'_>, u32>
-    ensures value { Gives seen result (asked_of (texts words.now)) }
+    ensures value { Gives asked_by result (asked_of (texts words.now)) }
     ensures differ { IfOk result FilesDiffer }
 {
     if is_word(words, 1, "build") {

@@ -1,4 +1,4 @@
-use Rattle.std.proofs.Common.{◌≡◌, Some, is_some, ap, sym, subst, ◌∙◌}
+use Rattle.std.proofs.Common.{Some, is_some, ap, sym, subst, ◌∙◌}
 use Rattle.cm_base.specs.Outside.{Rose, held}
 use Rattle.cmse.specs.Files.{FilesChange}
 use Rattle.cmse.specs.Build.{Builds}
