@@ -49,9 +49,4 @@ line_of (BadInput file at) = file ++ (codes ": bad at " ++ decimal at)
 -- what is printed: nothing where the command succeeded, and else the line
 abbrev pub text_of : Status → List ℕ
 text_of Done = []
-text_of (Refused refusal) = line_of (Refused refusal) ++ 10 ∷ []
-text_of (BadWords k) = line_of (BadWords k) ++ 10 ∷ []
-text_of (CannotRead name) = line_of (CannotRead name) ++ 10 ∷ []
-text_of (CannotWrite name) = line_of (CannotWrite name) ++ 10 ∷ []
-text_of NoMemory = line_of NoMemory ++ 10 ∷ []
-text_of (BadInput file at) = line_of (BadInput file at) ++ 10 ∷ []
+text_of status = line_of status ++ 10 ∷ []

@@ -14,9 +14,9 @@ use std::alloc::Global;
 /// Runs the command that the words after the program's name ask for, over these files and this output.
 ///
 /// Where `build` answers `Done` over a store that tells its files, the source is that of one entry that gives a
-/// number, and the Secure ROM that the written image reads as does what the program does, for every start, every list
-/// of Non-secure turns and every number of steps. Where `run` answers `Done` the output has grown by the transcript of
-/// the machine's run from that image and script.
+/// number, the library and the image are exactly those of this entry, and the device that the image reads as does what
+/// the program does, for every start, every list of Non-secure turns and every number of steps. Where `run` answers
+/// `Done` the output has grown by the transcript of the machine's run from that image and script.
 pub fn cmse_main<S: Store, K: Sink>(
     alloc: Global,
     words: &[String],
