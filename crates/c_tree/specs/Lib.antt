@@ -1,0 +1,6 @@
+pub mod Limits
+pub mod Nodes
+pub mod Depth
+pub mod Placed
+pub mod Slots
+pub mod Globals
