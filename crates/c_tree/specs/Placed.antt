@@ -2,8 +2,7 @@
 use Rattle.std.specs.Prelude.{◌≡◌, ℕ, ◌<◌, ◌==◌, ◌||◌, Bool, true, false, List, [], ◌∷◌, ◌++◌, map, Option, Some, None, slice_set, slice_index_or}
 use Rattle.std.specs.List.{fold, flat_map, list_any}
 use Rattle.c_types.specs.declared.ctype.CType.{CType}
-use Rattle.c_types.specs.declared.ctype.Shape.{out-Shape, Shape}
-use Rattle.c_types.specs.declared.ctype.Shape.TheOpen.{Shape-F, Array, Struct}
+use Rattle.c_types.specs.Kind.{is_array, is_struct}
 use Rattle.c_tree.specs.declared.expr.Expr.{Expr}
 use Rattle.c_tree.specs.declared.expr.ExprKind.{ExprKind}
 use Rattle.c_tree.specs.declared.expr.ExprKind.TheOpen.{ExprKind-F, Expr-F, Const, Local, Global, Deref, Member, Addr, Convert, Unary, Binary, PtrAdd, PtrDiff, And, Or, Cond, Assign, AssignOp, Step, Comma, Call, NsCall, Range, NsCreate, NsTest, NsCaller}
@@ -145,13 +144,8 @@ abbrev pub parts_taken : List Part → List ℕ
 parts_taken parts = flat_map (λ ns. ns) (map part_taken parts)
 
 -- arrays and structs
-abbrev pub is_aggregate_shape : Shape-F Shape CType → Bool
-is_aggregate_shape (Array of len) = true
-is_aggregate_shape (Struct number name size align) = true
-is_aggregate_shape _ = false
-
 abbrev pub is_aggregate : CType → Bool
-is_aggregate t = is_aggregate_shape (out-Shape t.shape)
+is_aggregate t = is_array t || is_struct t
 
 -- whether a number is in a list
 abbrev pub is_in : List ℕ → ℕ → Bool

@@ -5,7 +5,7 @@ ghost use Rattle.c_tree.specs.Globals as spec;
 ghost use Rattle.c_types.specs.Sizes.{fits};
 
 use crate::program::TGlobal;
-use crate::slots::bytes_of;
+use crate::frame::bytes_of;
 use c_types::type_align;
 
 fn round_up(at: u64, n: u64) -> u64

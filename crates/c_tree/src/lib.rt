@@ -3,11 +3,12 @@
 
 mod depth;
 mod expr;
+mod frame;
 mod globals;
 mod marks;
 mod nodes;
 mod program;
-mod slots;
+
 mod stmt;
 
 pub use depth::function_depth;
@@ -15,5 +16,5 @@ pub use expr::{BinOp, Expr, ExprKind, UnOp};
 pub use globals::globals_bytes;
 pub use nodes::{function_nodes, program_nodes};
 pub use program::{Extern, Program, TFunction, TGlobal, TLocal, TUnit};
-pub use slots::{placed_bytes, slots};
+pub use frame::{placed_bytes, slots};
 pub use stmt::{Item, Part, Stmt};

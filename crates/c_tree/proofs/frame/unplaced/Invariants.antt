@@ -1,7 +1,7 @@
 use Rattle.std.proofs.Common.{◌≡◌, ◌≤◌, ◌+◌, drop, length}
 use Rattle.c_tree.specs.Placed.{stmt_taken}
 use Rattle.c_tree.specs.Slots.{unplaced, unplaced_from}
-use Rattle.c_tree.proofs.slots.unplaced.Given as goal
+use Rattle.c_tree.proofs.frame.unplaced.Given as goal
 
 abbrev pub invariant-loop-local : goal.invariant-loop-local
 invariant-loop-local l = record {

@@ -3,7 +3,7 @@ use Rattle.std.specs.Prelude.{IsTrue}
 use Rattle.c_tree.specs.Limits.{capped}
 use Rattle.c_tree.specs.Placed.{stmt_taken}
 use Rattle.c_tree.specs.Slots.{all_fit, placed_bytes, placed_from}
-use Rattle.c_tree.proofs.slots.placed_bytes.Given as goal
+use Rattle.c_tree.proofs.frame.placed_bytes.Given as goal
 
 abbrev pub invariant-loop-local : goal.invariant-loop-local
 invariant-loop-local l = record {

@@ -9,15 +9,12 @@ ghost use Rattle.c_types.specs.Sizes.{fits};
 use crate::depth::function_depth;
 use crate::marks::{Marks, marks_of};
 use crate::program::{TFunction, TLocal};
-use c_types::{CType, Shape, type_size};
+use c_types::{CType, type_size};
 
 fn is_aggregate(t: &CType) -> bool
     ensures { result ≡ is_aggregate t.now }
 {
-    match &t.shape {
-        Shape::Array { .. } | Shape::Struct { .. } => true,
-        _ => false,
-    }
+    t.is_array() || t.is_struct()
 }
 
 /// Whether a local is placed that is local n.
