@@ -4,3 +4,4 @@ pub mod Depth
 pub mod Placed
 pub mod Slots
 pub mod Globals
+pub mod Conditions

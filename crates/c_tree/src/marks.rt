@@ -1,5 +1,5 @@
 //! The locals whose address is taken.
-ghost use Rattle.std.specs.Prelude.{◌≡◌, ◌<◌, [], false, slice_index_or};
+ghost use Rattle.std.specs.Prelude.{◌≡◌, ◌<◌, [], false, length, slice_index_or};
 ghost use Rattle.c_tree.specs.Placed as spec;
 
 use crate::expr::{Expr, ExprKind};
@@ -15,7 +15,8 @@ pub struct Marks {
 impl Marks {
     /// No mark.
     fn none() -> Marks
-        ensures { spec.AreMarks result.set [] }
+        ensures many { length result.set ≡ 2048 }
+        ensures clear { spec.AreMarks result.set [] }
     {
         Marks { set: [false; 2048] }
     }

@@ -1,4 +1,4 @@
-use Rattle.std.proofs.Common.{◌≡◌, ◌+◌, drop, length}
+use Rattle.std.proofs.Common.{◌≡◌, ◌≤◌, ◌+◌, drop, length}
 use Rattle.std.specs.Prelude.{IsTrue}
 use Rattle.c_tree.specs.Limits.{capped}
 use Rattle.c_tree.specs.Placed.{stmt_taken}
@@ -9,5 +9,6 @@ abbrev pub invariant-loop-local : goal.invariant-loop-local
 invariant-loop-local l = record {
   so_far : capped (l.bytes + placed_from (stmt_taken l.f.body) l.n (drop l.local-index l.locals)) ≡ capped (placed_bytes l.f);
   number : l.n ≡ length l.f.params + l.local-index;
+  bounded : l.bytes ≤ 18446744073709551615;
   fit : IsTrue (all_fit (drop l.local-index l.locals));
 }
