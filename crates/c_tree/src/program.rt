@@ -58,9 +58,15 @@ pub struct TUnit {
 }
 
 impl Model for TUnit {
+    ghost use Rattle.std.specs.Coded.{codes};
     ghost use Rattle.c_tree.specs.Conditions as spec;
+    ghost use Rattle.c_tree.specs.contracts.program.TFunction as f;
+    ghost use Rattle.c_tree.specs.contracts.program.TGlobal as g;
+    ghost use Rattle.c_tree.specs.contracts.program.Extern as e;
 
     ghost Value = { spec.TUnit };
+
+    ghost coded = { Prim.hlevel (codes, f.the_row.coded, g.the_row.coded, e.the_row.coded) };
 
     ghost view = { λ it. record {
       functions = it.functions;
@@ -109,9 +115,14 @@ pub struct Program {
 }
 
 impl Model for Program {
+    ghost use Rattle.std.specs.Coded.{codes};
     ghost use Rattle.c_tree.specs.Conditions as spec;
+    ghost use Rattle.c_tree.specs.contracts.program.TFunction as f;
+    ghost use Rattle.c_tree.specs.contracts.program.TGlobal as g;
 
     ghost Value = { spec.Program };
+
+    ghost coded = { Prim.hlevel (codes, f.the_row.coded, g.the_row.coded) };
 
     ghost view = { λ it. record {
       functions = it.functions;
