@@ -4,4 +4,5 @@ pub mod Depth
 pub mod Placed
 pub mod Slots
 pub mod Globals
+pub mod Numbers
 pub mod Conditions
