@@ -1,10 +1,11 @@
 -- What holds of each typed unit and of each program.
 use Rattle.std.specs.Prelude.{◌≡◌, ◌≢◌, ℕ, ◌≤◌, ◌||◌, Bool, true, false, cond, IsTrue, List, map, length, take, codes, All, AllPairs, bytes_eq}
 use Rattle.std.specs.List.{filter}
+use Rattle.c_types.specs.Kind.{look}
 use Rattle.c_tree.specs.declared.program.Extern.{Extern}
 use Rattle.c_tree.specs.declared.program.TFunction.{TFunction}
 use Rattle.c_tree.specs.declared.program.TGlobal.{TGlobal}
-use Rattle.c_tree.specs.Numbers.{Names, function_in_range, names_of_program, names_of_unit}
+use Rattle.c_tree.specs.Numbers.{Names, function_in_range, looks_called, names_of_program, names_of_unit}
 use Rattle.c_tree.specs.Nodes.{function_nodes, program_nodes}
 use Rattle.c_tree.specs.Slots.{all_fit, bytes_of, placed_bytes, slots}
 use Rattle.c_tree.specs.Globals as g
@@ -14,14 +15,15 @@ use Rattle.c_tree.specs.Globals.{globals_bytes}
 abbrev pub is_twin : List ℕ → Bool
 is_twin name = bytes_eq (take 10 name) (codes "__acle_se_")
 
--- a function within the limits, an entry function with at most four parameters; its name is no twin's, and the numbers in
--- it are in range where these names stand around it
+-- a function within the limits, an entry function with at most four parameters. Its type has as many parameters, its name
+-- is no twin's, and the numbers in it are in range where these names stand around it.
 pub record IsFunction (names : Names) (f : TFunction) : Type 0 where
   pub params : length f.params ≤ 8
   pub nodes : function_nodes f ≤ 2000
   pub slots : slots f ≤ 900
   pub placed : placed_bytes f ≤ 16384
   pub types : IsTrue (all_fit f.locals)
+  pub typed : IsTrue (looks_called (length f.params) (look f.ctype))
   pub named : is_twin f.name ≡ false
   pub entry : f.entry ≡ true → length f.params ≤ 4
   pub numbers : IsTrue (function_in_range names f)

@@ -1,7 +1,6 @@
 -- Whether the numbers in a tree are in range: each names a local, a global or a function that there is.
-use Rattle.std.specs.Prelude.{ℕ, ◌+◌, ◌==◌, ◌&&◌, Bool, true, false, not, nat_le, nat_lt, List, length, map, Option, Some, None, slice_get}
+use Rattle.std.specs.Prelude.{ℕ, ◌+◌, ◌==◌, ◌&&◌, Bool, true, false, not, nat_le, nat_lt, List, length, Option, Some, None, slice_get}
 use Rattle.std.specs.List.{list_all}
-use Rattle.c_types.specs.declared.ctype.CType.{CType}
 use Rattle.c_types.specs.declared.ctype.Shape.TheOpen as shape
 use Rattle.c_types.specs.Kind.{Look, look, is_function}
 use Rattle.c_tree.specs.declared.expr.Expr.{Expr}

@@ -20,10 +20,7 @@ fn kind_depth(kind: &ExprKind) -> u64
     ensures { result ≡ capped (spec.kind_depth kind.now) }
 {
     match kind {
-        ExprKind::Const(_)
-        | ExprKind::Local(_)
-        | ExprKind::Global(_)
-        | ExprKind::NsCaller => 1,
+        ExprKind::Const(_) | ExprKind::Local(_) | ExprKind::Global(_) | ExprKind::NsCaller => 1,
         ExprKind::Deref(a)
         | ExprKind::Member(a, _)
         | ExprKind::Addr(a)

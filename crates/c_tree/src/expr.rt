@@ -3,7 +3,6 @@
 use c_types::CType;
 use cm_base::{List, Place, Shared};
 
-
 #[derive(Clone, Copy, Debug, PartialEq, Eq)]
 pub enum UnOp {
     Plus,

@@ -4,8 +4,8 @@ ghost use Rattle.std.specs.List.{filter, fold};
 ghost use Rattle.c_tree.specs.Globals as spec;
 ghost use Rattle.c_types.specs.Sizes.{fits};
 
-use crate::program::TGlobal;
 use crate::frame::bytes_of;
+use crate::program::TGlobal;
 use c_types::type_align;
 
 fn round_up(at: u64, n: u64) -> u64

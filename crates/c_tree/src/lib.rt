@@ -8,13 +8,12 @@ mod globals;
 mod marks;
 mod nodes;
 mod program;
-
 mod stmt;
 
 pub use depth::function_depth;
 pub use expr::{BinOp, Expr, ExprKind, UnOp};
+pub use frame::{placed_bytes, slots};
 pub use globals::globals_bytes;
 pub use nodes::{function_nodes, program_nodes};
 pub use program::{Extern, Program, TFunction, TGlobal, TLocal, TUnit};
-pub use frame::{placed_bytes, slots};
 pub use stmt::{Item, Part, Stmt};

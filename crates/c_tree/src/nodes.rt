@@ -20,10 +20,7 @@ fn kind_nodes(kind: &ExprKind) -> u64
     ensures { result ≡ capped (spec.kind_nodes kind.now) }
 {
     match kind {
-        ExprKind::Const(_)
-        | ExprKind::Local(_)
-        | ExprKind::Global(_)
-        | ExprKind::NsCaller => 0,
+        ExprKind::Const(_) | ExprKind::Local(_) | ExprKind::Global(_) | ExprKind::NsCaller => 0,
         ExprKind::Deref(a)
         | ExprKind::Member(a, _)
         | ExprKind::Addr(a)

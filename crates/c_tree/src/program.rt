@@ -82,11 +82,7 @@ impl Model for TUnit {
 }
 
 impl TUnit {
-    pub fn new(
-        functions: List<TFunction>,
-        globals: List<TGlobal>,
-        externs: List<Extern>,
-    ) -> TUnit
+    pub fn new(functions: List<TFunction>, globals: List<TGlobal>, externs: List<Extern>) -> TUnit
         requires { spec.IsUnit (record { functions = functions; globals = globals; externs = externs }) }
         ensures { result ≡ record { functions = functions; globals = globals; externs = externs } }
     {
@@ -138,11 +134,7 @@ impl Model for Program {
 }
 
 impl Program {
-    pub fn new(
-        functions: List<TFunction>,
-        globals: List<TGlobal>,
-        entries: List<Text>,
-    ) -> Program
+    pub fn new(functions: List<TFunction>, globals: List<TGlobal>, entries: List<Text>) -> Program
         requires { spec.IsProgram (record { functions = functions; globals = globals; entries = entries }) }
         ensures { result ≡ record { functions = functions; globals = globals; entries = entries } }
     {

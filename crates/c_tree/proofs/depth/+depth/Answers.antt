@@ -1,4 +1,4 @@
-use Rattle.std.proofs.Common.{◌≤◌, arith, map, refl}
+use Rattle.std.proofs.Common.{◌≤◌, arith}
 use Rattle.c_tree.specs.Depth as spec
 use Rattle.c_tree.proofs.DepthLaws.{held_least}
 use Rattle.c_tree.proofs.depth.+depth.Goals as goal

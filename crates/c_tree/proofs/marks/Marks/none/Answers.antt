@@ -1,4 +1,4 @@
-use Rattle.std.proofs.Common.{false, refl}
+use Rattle.std.proofs.Common.{false}
 use Rattle.std.proofs.lemmas.List.{get_or-replicate}
 use Rattle.c_tree.proofs.marks.Marks.none.Goals as goal
 
