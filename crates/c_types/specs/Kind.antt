@@ -32,23 +32,23 @@ arithmetic t = arithmetic_of (look t)
 abbrev pub is_arithmetic : CType → Bool
 is_arithmetic t = is_some (arithmetic t)
 
-abbrev pub target_of : Look → Option CType
-target_of (shape.Pointer to) = Some to
-target_of _ = None
+abbrev pub referenced_by : Look → Option CType
+referenced_by (shape.Pointer to) = Some to
+referenced_by _ = None
 
--- what a pointer points to
-abbrev pub target : CType → Option CType
-target t = target_of (look t)
+-- the type that a pointer points to
+abbrev pub referenced : CType → Option CType
+referenced t = referenced_by (look t)
 
 abbrev pub is_pointer : CType → Bool
-is_pointer t = is_some (target t)
+is_pointer t = is_some (referenced t)
 
 abbrev pub points_to_void : Option CType → Bool
 points_to_void (Some to) = is_void to
 points_to_void None = false
 
 abbrev pub is_void_pointer : CType → Bool
-is_void_pointer t = points_to_void (target t)
+is_void_pointer t = points_to_void (referenced t)
 
 -- scalar types: arithmetic types and pointers
 abbrev pub is_scalar : CType → Bool
@@ -72,23 +72,20 @@ looks_struct _ = false
 abbrev pub is_struct : CType → Bool
 is_struct t = looks_struct (look t)
 
-abbrev pub side_of : Look → Option Bool
-side_of (shape.Function gives params nonsecure) = Some nonsecure
-side_of _ = None
-
--- whether a function is one that Non-secure code has
-abbrev pub side : CType → Option Bool
-side t = side_of (look t)
+abbrev pub looks_function : Look → Bool
+looks_function (shape.Function gives params nonsecure) = true
+looks_function _ = false
 
 abbrev pub is_function : CType → Bool
-is_function t = is_some (side t)
+is_function t = looks_function (look t)
 
-abbrev pub holds : Option Bool → Bool
-holds (Some b) = b
-holds None = false
+abbrev pub looks_nonsecure : Look → Bool
+looks_nonsecure (shape.Function gives params nonsecure) = nonsecure
+looks_nonsecure _ = false
 
+-- a function that Non-secure code has
 abbrev pub is_nonsecure_function : CType → Bool
-is_nonsecure_function t = holds (side t)
+is_nonsecure_function t = looks_nonsecure (look t)
 
 -- object types, complete or not: all but functions
 abbrev pub is_object : CType → Bool

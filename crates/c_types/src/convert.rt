@@ -16,23 +16,23 @@ pub fn converts(from: &CType, to: &CType, null: bool) -> bool
         || pointer_converts(from, to)
 }
 
-/// Whether a pointer is implicitly converted to another type of pointer: the targets are one type, their own qualifiers left
-/// aside, or one is void and the other an object type; and the target of `to` has the qualifiers of that of `from` (C11
-/// 6.3.2.3, paragraphs 1 and 2, 6.5.16.1).
+/// Whether a pointer is implicitly converted to another type of pointer: the types that they point to are one, their own
+/// qualifiers left aside, or one is void and the other an object type; and that of `to` has the qualifiers of that of `from`
+/// (C11 6.3.2.3, paragraphs 1 and 2, and 6.5.16.1).
 pub fn pointer_converts(from: &CType, to: &CType) -> bool
     ensures { result ≡ spec.pointer_converts from.now to.now }
 {
     match &from.shape {
         Shape::Pointer(a) => match &to.shape {
-            Shape::Pointer(b) => target_converts(a.get(), b.get()),
+            Shape::Pointer(b) => referenced_converts(a.get(), b.get()),
             _ => false,
         },
         _ => false,
     }
 }
 
-fn target_converts(from: &CType, to: &CType) -> bool
-    ensures { result ≡ spec.target_converts from.now to.now }
+fn referenced_converts(from: &CType, to: &CType) -> bool
+    ensures { result ≡ spec.referenced_converts from.now to.now }
 {
     qualifiers_within(from, to)
         && (same_unqualified(from, to)

@@ -35,9 +35,9 @@ impl CType {
         }
     }
 
-    /// What it points to, where it is a pointer.
-    pub fn target(&self) -> Option<&CType>
-        ensures { option_copied result ≡ spec.target self.now }
+    /// The type that it points to, where it is a pointer.
+    pub fn referenced(&self) -> Option<&CType>
+        ensures { option_copied result ≡ spec.referenced self.now }
     {
         match &self.shape {
             Shape::Pointer(to) => Some(to.get()),

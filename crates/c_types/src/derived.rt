@@ -1,7 +1,7 @@
-//! Types made of types.
+//! Types derived from other types (C11 6.2.5, paragraph 20), and types adjusted.
 
 ghost use Rattle.std.specs.Prelude.{◌≡◌, IfOk};
-ghost use Rattle.c_types.specs.Derive as spec;
+ghost use Rattle.c_types.specs.Derived as spec;
 
 use crate::arith::Arith;
 use crate::ctype::{CType, Shape};
@@ -27,11 +27,11 @@ impl CType {
         CType::plain(Shape::Arith(a))
     }
 
-    /// The type of pointers to `target`.
-    pub fn pointer_to(target: Shared<CType>) -> CType
-        ensures { result ≡ spec.pointer_to target }
+    /// The type of pointers to `referenced`.
+    pub fn pointer_to(referenced: Shared<CType>) -> CType
+        ensures { result ≡ spec.pointer_to referenced }
     {
-        CType::plain(Shape::Pointer(target))
+        CType::plain(Shape::Pointer(referenced))
     }
 
     /// The type of arrays of so many elements.

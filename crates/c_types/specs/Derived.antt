@@ -1,4 +1,4 @@
--- Types made of types.
+-- Types derived from other types (C11 6.2.5, paragraph 20), and types adjusted (6.3.2.1, 6.7.6.3).
 use Rattle.std.specs.Prelude.{ℕ, zero, suc, Bool, false, ◌||◌, List, Option}
 use Rattle.c_types.specs.Kind.{Look, look}
 use Rattle.c_types.specs.declared.arith.Arith.{Arith}
@@ -17,7 +17,7 @@ abbrev pub arith_type : Arith → CType
 arith_type a = plain (made.Arith a)
 
 abbrev pub pointer_to : CType → CType
-pointer_to target = plain (made.Pointer target)
+pointer_to referenced = plain (made.Pointer referenced)
 
 abbrev pub array_of : CType → Option ℕ → CType
 array_of element len = plain (made.Array element len)
