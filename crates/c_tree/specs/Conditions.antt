@@ -15,8 +15,8 @@ use Rattle.c_tree.specs.Globals.{globals_bytes}
 abbrev pub is_twin : List ℕ → Bool
 is_twin name = bytes_eq (take 10 name) (codes "__acle_se_")
 
--- a function within the limits, an entry function with at most four parameters. Its type has as many parameters, its name
--- is no twin's, and the numbers in it are in range where these names stand around it.
+-- A function within the limits. Its type has as many parameters, its name is no twin's, an entry function has at most four
+-- parameters and isn't static, and the numbers in it are in range where these names stand around it.
 pub record IsFunction (names : Names) (f : TFunction) : Type 0 where
   pub params : length f.params ≤ 8
   pub nodes : function_nodes f ≤ 2000
@@ -25,7 +25,7 @@ pub record IsFunction (names : Names) (f : TFunction) : Type 0 where
   pub types : IsTrue (all_fit f.locals)
   pub typed : IsTrue (looks_called (length f.params) (look f.ctype))
   pub named : is_twin f.name ≡ false
-  pub entry : f.entry ≡ true → length f.params ≤ 4
+  pub entry : f.entry ≡ true → (length f.params ≤ 4) × (f.is_static ≡ false)
   pub numbers : IsTrue (function_in_range names f)
 
 -- a global with all of its bytes, or with none where it is left as it is at the start
@@ -39,10 +39,12 @@ pub record TUnit : Type 0 where
   pub globals : List TGlobal
   pub externs : List Extern
 
+-- what holds of a unit
 pub record IsUnit (u : TUnit) : Type 0 where
   pub functions : All (IsFunction (names_of_unit u.externs)) u.functions
   pub globals : All IsGlobal u.globals
   pub types : IsTrue (g.all_fit u.globals)
+  pub named : All (λ x. is_twin x.name ≡ false) u.externs
 
 -- a program as contracts see it
 pub record Program : Type 0 where
@@ -50,8 +52,8 @@ pub record Program : Type 0 where
   pub globals : List TGlobal
   pub entries : List (List ℕ)
 
--- Two functions of one name are of different units, and one of them is static. The entries are the names of the entry
--- functions, in their order.
+-- What holds of a program: it is within the limits. Two functions of one name are of different units, and one of them is
+-- static. The entries are the names of the entry functions, in their order.
 pub record IsProgram (p : Program) : Type 0 where
   pub functions : All (IsFunction (names_of_program p.functions p.globals)) p.functions
   pub globals : All IsGlobal p.globals

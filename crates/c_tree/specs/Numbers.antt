@@ -26,6 +26,7 @@ pub record Around : Type 0 where
   pub locals : ℕ
   pub entry : Bool
 
+-- whether all of them hold
 abbrev pub all_true : List Bool → Bool
 all_true bs = list_all (λ b. b) bs
 
@@ -57,19 +58,24 @@ kind_step around (NsCreate a) = a
 kind_step around (NsTest a) = a
 kind_step around NsCaller = around.entry
 
+-- an expression is in range where its kind is
 abbrev pub expr_step : Expr-F Bool Bool → Bool
 expr_step e = e.kind
 
+-- whether the numbers in an expression are in range
 abbrev pub expr_in_range : Around → Expr → Bool
 expr_in_range around = fold-Expr Bool Bool (kind_step around) expr_step
 
+-- the same of one that may be left out
 abbrev pub in_range_or : Around → Option Expr → Bool
 in_range_or around None = true
 in_range_or around (Some e) = expr_in_range around e
 
+-- the same of the elements of an initialiser
 abbrev pub items_in_range : Around → List Item → Bool
 items_in_range around items = list_all (λ i. expr_in_range around i.value) items
 
+-- a test that may be left out
 abbrev pub or_true : Option Bool → Bool
 or_true None = true
 or_true (Some b) = b
@@ -89,11 +95,13 @@ stmt_step around s.Break = true
 stmt_step around s.Continue = true
 stmt_step around (s.Return value) = in_range_or around value
 
+-- of a part of a switch
 abbrev pub part_step : Part-F Bool Bool → Bool
 part_step (s.Case _) = true
 part_step s.Default = true
 part_step (s.Stmt b) = b
 
+-- whether the numbers in a statement are in range
 abbrev pub stmt_in_range : Around → Stmt → Bool
 stmt_in_range around = fold-Stmt Bool Bool part_step (stmt_step around)
 
@@ -103,26 +111,32 @@ function_in_range names f = stmt_in_range (record { names = names; locals = leng
 
 -- ---- in a unit a number is a place among its externs
 
+-- whether an extern is a global
 abbrev pub is_object : Option Extern → Bool
 is_object None = false
 is_object (Some x) = not (is_function x.ctype)
 
+-- whether a type is that of functions of so many parameters
 abbrev pub looks_called : ℕ → Look → Bool
 looks_called many (shape.Function gives params nonsecure) = length params == many
 looks_called many _ = false
 
+-- whether an extern is a function of so many parameters
 abbrev pub is_called : ℕ → Option Extern → Bool
 is_called many None = false
 is_called many (Some x) = looks_called many (look x.ctype)
 
+-- the numbers that a unit has
 abbrev pub names_of_unit : List Extern → Names
 names_of_unit externs = record { is_global = λ n. is_object (slice_get externs n); is_function = λ n many. is_called many (slice_get externs n) }
 
 -- ---- in a program it is a place among its globals or its functions
 
+-- whether a function has so many parameters
 abbrev pub has_params : ℕ → Option TFunction → Bool
 has_params many None = false
 has_params many (Some f) = length f.params == many
 
+-- the numbers that a program has
 abbrev pub names_of_program : List TFunction → List TGlobal → Names
 names_of_program functions globals = record { is_global = λ n. nat_lt n (length globals); is_function = λ n many. has_params many (slice_get functions n) }
