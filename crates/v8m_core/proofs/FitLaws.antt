@@ -174,25 +174,25 @@ IsPlace (goes.Enter e) = IsWord (e + 4)
 IsPlace _ = Unit {0}
 
 -- code stands behind the gateway that a branch enters
-record Goal (g : Goes) : Type 0 where
+record EntersInRange (g : Goes) : Type 0 where
   by : IsPlace g
 
-goal_cond : (b : Bool) (g k : Goes) → Goal g → Goal k → Goal (cond b g k)
-goal_cond true g k x y = x
-goal_cond false g k x y = y
+enters_cond : (b : Bool) (g k : Goes) → EntersInRange g → EntersInRange k → EntersInRange (cond b g k)
+enters_cond true g k x y = x
+enters_cond false g k x y = y
 
-gateway_goal : (device : Device) (a : ℕ) (b : Bool) → is_gateway device a ≡ b → Goal (goes_or (cond b (Some a) None) a)
+gateway_enters : (device : Device) (a : ℕ) (b : Bool) → is_gateway device a ≡ b → EntersInRange (goes_or (cond b (Some a) None) a)
 unfolding is_gateway
-gateway_goal device a true e = record { by = lies_lt 3 a (omega arith) (left_of (lies_in 3 a 4) _ e) }
-gateway_goal device a false e =
-    goal_cond (eqb a function_return) _ _ (record { by = tt })
-    (goal_cond (is_nonsecure a) _ _ (record { by = tt }) (goal_cond (is_secure a) _ _ (record { by = tt }) (record { by = tt })))
+gateway_enters device a true e = record { by = lies_lt 3 a (omega arith) (left_of (lies_in 3 a 4) _ e) }
+gateway_enters device a false e =
+    enters_cond (eqb a function_return) _ _ (record { by = tt })
+    (enters_cond (is_nonsecure a) _ _ (record { by = tt }) (enters_cond (is_secure a) _ _ (record { by = tt }) (record { by = tt })))
 
-goal_of : (device : Device) (t : ℕ) → Goal (goes_in device t)
+goes_enters : (device : Device) (t : ℕ) → EntersInRange (goes_in device t)
 unfolding goes_in goes_of
-goal_of device t = gateway_goal device (aligned 2 t) _ refl
+goes_enters device t = gateway_enters device (aligned 2 t) _ refl
 
-fits_arrived : (device : Device) (g : Goes) (a : ℕ) (show : Stepped) (s : State) → Fits s → Goal g → IsWord a → Leaves (arrived device g a show s)
+fits_arrived : (device : Device) (g : Goes) (a : ℕ) (show : Stepped) (s : State) → Fits s → EntersInRange g → IsWord a → Leaves (arrived device g a show s)
 fits_arrived device (goes.Enter e) a show s h k p =
     record { by = placed s Secure (record s.cpu.regs { lr = aligned 2 s.cpu.regs.lr }) (e + 4) s.memory h (set_fits s.cpu.regs 14 _ h.cpu.regs (aligned_lt 2 _ h.cpu.regs.lr)) k.by h.memory }
 fits_arrived device goes.Return a show s h k p = fits_return device s h
@@ -204,7 +204,7 @@ fits_bxns : (device : Device) (v : ℕ) (s : State) → Fits s → IsWord v → 
 unfolding bxns
 fits_bxns device v s h p =
     fits_cond (eqb (aligned 2 v) function_return) _ _ (fits_return device s h)
-    (fits_cond (eqb (v % 2) 0) _ _ (fits_arrived device (goes_in device v) v (what.Given (seen s.cpu v)) s h (goal_of device v) p)
+    (fits_cond (eqb (v % 2) 0) _ _ (fits_arrived device (goes_in device v) v (what.Given (seen s.cpu v)) s h (goes_enters device v) p)
     (fits_cond (is_in_rom (v - 1)) _ _ (fits_at s (v - 1) h (minus_lt v 1 p)) (fits_stopped stop.BadState s h)))
 
 fits_bx : (device : Device) (v : ℕ) (s : State) → Fits s → IsWord v → Leaves (bx device v s)
@@ -236,7 +236,7 @@ fits_blxns device v size s h p room =
     let t = called back s in
     fits_cond (eqb (v % 2) 0) _ _
     (fits_or (call_stop s.cpu) s _ h
-    (fits_only _ s (called_at device v t) h (fits_arrived device (goes_in device v) v (what.Given (seen t.cpu v)) t (fits_called back s h) (goal_of device v) p)))
+    (fits_only _ s (called_at device v t) h (fits_arrived device (goes_in device v) v (what.Given (seen t.cpu v)) t (fits_called back s h) (goes_enters device v) p)))
     (fits_cond (is_in_rom (v - 1)) _ _
     (record { by = placed s s.cpu.side (record s.cpu.regs { lr = back }) (v - 1) s.memory h (set_fits s.cpu.regs 14 back h.cpu.regs (link_lt size s.cpu room)) (minus_lt v 1 p) h.memory })
     (fits_stopped stop.BadState s h))
@@ -368,7 +368,7 @@ fits_turn device t s w h =
       cpu = fits_set_by t s.cpu w h.cpu;
       memory = record { ns_rom = h.memory.ns_rom; ns_ram = length-acted t.items s.memory.ns_ram ∙ h.memory.ns_ram; secure_ram = h.memory.secure_ram };
     } in
-    fits_or after.stop u _ q (fits_arrived device (goes_in device t.target) (aligned 2 t.target) what.Went u q (goal_of device t.target) (aligned_lt 2 t.target w.target))
+    fits_or after.stop u _ q (fits_arrived device (goes_in device t.target) (aligned 2 t.target) what.Went u q (goes_enters device t.target) (aligned_lt 2 t.target w.target))
 
 -- Reset
 

@@ -11,13 +11,13 @@ use Rattle.v8m_core.specs.Lists.{registers, in_list, next, bytes_of, all_writabl
 use Rattle.v8m_core.specs.Step.{or_stop, push_stop, pop_stop, call_stop}
 use Rattle.v8m_core.proofs.Ram.{readable_where_writable}
 
--- a word at a multiple of 4 in Secure RAM
-pub record IsWord (a : ℕ) : Type 0 where
+-- Secure RAM has a word at an address, a multiple of 4
+pub record IsWordPlace (a : ℕ) : Type 0 where
   pub even : a % 4 ≡ 0
   pub from : SECURE_DATA.from ≤ a
   pub to : a + 4 ≤ SECURE_CONTROL.to
 
-pub word_writable : (a : ℕ) → IsWord a → is_writable a 4 ≡ true
+pub word_writable : (a : ℕ) → IsWordPlace a → is_writable a 4 ≡ true
 unfolding is_writable
 word_writable a h =
     let even = h.even in
@@ -25,14 +25,14 @@ word_writable a h =
     let to = h.to in
     grind (arith, nat_tests)
 
--- the words of a list from an address on
-pub record AreWords (a bytes : ℕ) : Type 0 where
+-- so it has the words of a list from an address on
+pub record AreWordPlaces (a bytes : ℕ) : Type 0 where
   pub even : a % 4 ≡ 0
   pub from : SECURE_DATA.from ≤ a
   pub to : a + bytes ≤ SECURE_CONTROL.to
 
 -- a register of the list takes the first word, and another one none
-first_writable : (b : Bool) (a k : ℕ) (rest : ℕ → Bool) → AreWords a (cond b 4 0 + k) → ((x : ℕ) → AreWords x k → rest x ≡ true) → cond b (is_writable a 4 && rest (next a)) (rest a) ≡ true
+first_writable : (b : Bool) (a k : ℕ) (rest : ℕ → Bool) → AreWordPlaces a (cond b 4 0 + k) → ((x : ℕ) → AreWordPlaces x k → rest x ≡ true) → cond b (is_writable a 4 && rest (next a)) (rest a) ≡ true
 first_writable true a k rest h all =
     let even = h.even in
     let from = h.from in
@@ -44,12 +44,12 @@ first_writable false a k rest h all =
     let to = h.to in
     all a (record { even = h.even; from = h.from; to = omega arith })
 
-pub list_writable : (list : ℕ) (ns : List ℕ) (a : ℕ) → AreWords a (bytes_of list ns) → all_writable list ns a ≡ true
+pub list_writable : (list : ℕ) (ns : List ℕ) (a : ℕ) → AreWordPlaces a (bytes_of list ns) → all_writable list ns a ≡ true
 unfolding all_writable bytes_of
 list_writable list [] a h = refl
 list_writable list (n ∷ ns) a h = first_writable (in_list list n) a (bytes_of list ns) (λ x. all_writable list ns x) h (λ x w. list_writable list ns x w)
 
-first_readable : (b : Bool) (a k : ℕ) (rest : ℕ → Bool) → AreWords a (cond b 4 0 + k) → ((x : ℕ) → AreWords x k → rest x ≡ true) → cond b (is_readable a 4 && rest (next a)) (rest a) ≡ true
+first_readable : (b : Bool) (a k : ℕ) (rest : ℕ → Bool) → AreWordPlaces a (cond b 4 0 + k) → ((x : ℕ) → AreWordPlaces x k → rest x ≡ true) → cond b (is_readable a 4 && rest (next a)) (rest a) ≡ true
 first_readable true a k rest h all =
     let even = h.even in
     let from = h.from in
@@ -61,7 +61,7 @@ first_readable false a k rest h all =
     let to = h.to in
     all a (record { even = h.even; from = h.from; to = omega arith })
 
-pub list_readable : (list : ℕ) (ns : List ℕ) (a : ℕ) → AreWords a (bytes_of list ns) → all_readable list ns a ≡ true
+pub list_readable : (list : ℕ) (ns : List ℕ) (a : ℕ) → AreWordPlaces a (bytes_of list ns) → all_readable list ns a ≡ true
 unfolding all_readable bytes_of
 list_readable list [] a h = refl
 list_readable list (n ∷ ns) a h = first_readable (in_list list n) a (bytes_of list ns) (λ x. all_readable list ns x) h (λ x w. list_readable list ns x w)
@@ -79,7 +79,7 @@ bytes_even list (n ∷ ns) = first (in_list list n) (bytes_of list ns) (bytes_ev
 none : (b1 b2 b3 : Bool) → b1 ≡ false → b2 ≡ true → b3 ≡ true → or_stop (cond b1 (Some stop.StackLimit) None) (cond (not b2) (Some stop.Unaligned) (cond b3 None (Some stop.Unmapped))) ≡ None
 none b1 b2 b3 p q r = rw (p, q, r) refl
 
-pub push_goes : (list sp : ℕ) (c : Cpu) → c.regs.sp ≡ sp + bytes_of list registers → c.msplim ≤ sp → AreWords sp (bytes_of list registers) → push_stop list c ≡ None
+pub push_goes : (list sp : ℕ) (c : Cpu) → c.regs.sp ≡ sp + bytes_of list registers → c.msplim ≤ sp → AreWordPlaces sp (bytes_of list registers) → push_stop list c ≡ None
 unfolding push_stop
 push_goes list sp c e limit w =
     let bytes = bytes_of list registers in
@@ -93,7 +93,7 @@ push_goes list sp c e limit w =
     (let t : eqb (c.regs.sp % 4) 0 ≡ true = grind (arith, nat_tests) in t)
     (ap (all_writable list registers) at ∙ list_writable list registers sp w)
 
-pub pop_goes : (list : ℕ) (c : Cpu) → c.msplim ≤ c.regs.sp → AreWords c.regs.sp (bytes_of list registers) → pop_stop list c ≡ None
+pub pop_goes : (list : ℕ) (c : Cpu) → c.msplim ≤ c.regs.sp → AreWordPlaces c.regs.sp (bytes_of list registers) → pop_stop list c ≡ None
 unfolding pop_stop
 pop_goes list c limit w =
     let high : c.msplim ≤ aligned 4 (add c.regs.sp (bytes_of list registers)) = omega (arith, w.even, w.to, bytes_even list registers, limit) in
@@ -105,7 +105,7 @@ pop_goes list c limit w =
 none_of_call : (b1 b2 b3 : Bool) → b1 ≡ true → b2 ≡ false → b3 ≡ true → cond (not b1) (Some stop.BadState) (or_stop (cond b2 (Some stop.StackLimit) None) (cond b3 None (Some stop.Unmapped))) ≡ None
 none_of_call b1 b2 b3 p q r = rw (p, q, r) refl
 
-pub call_goes : (sp : ℕ) (c : Cpu) → c.regs.sp ≡ sp + 8 → sp % 8 ≡ 0 → c.msplim ≤ sp → AreWords sp 8 → call_stop c ≡ None
+pub call_goes : (sp : ℕ) (c : Cpu) → c.regs.sp ≡ sp + 8 → sp % 8 ≡ 0 → c.msplim ≤ sp → AreWordPlaces sp 8 → call_stop c ≡ None
 unfolding call_stop
 call_goes sp c e even limit w =
     let at : subtract c.regs.sp 8 ≡ sp = omega (arith, e, w.to) in
