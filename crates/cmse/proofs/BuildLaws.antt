@@ -14,7 +14,7 @@ use Rattle.constant_entry.specs.Code.{start_place, rom_bytes, used_bytes, gatewa
 use Rattle.constant_entry.specs.Meaning.{one_veneer}
 use Rattle.constant_entry.proofs.Placed.{gives_constant}
 use Rattle.constant_entry.proofs.Views.{shows_constant}
-use Rattle.constant_entry.proofs.OneEntry.{refines_one, only_one, worlds_one, ram_one, unseen_one, clean_one, sealed_one}
+use Rattle.constant_entry.proofs.OneEntry.{refines_one, only_one, worlds_one, ram_one, unseen_one, never_stops_one, sealed_one}
 use Rattle.cmse.specs.declared.status.Status.{Status}
 use Rattle.cmse.specs.declared.status.Status.TheVariants.{Done, Refused, CannotRead, CannotWrite, NoMemory}
 use Rattle.cmse.specs.Files.{FilesChange, FilesStay}
@@ -37,7 +37,7 @@ builds text name lib img n form lists file reads =
       begins = sealed_one n small;
       does = refines_one name n small;
       only = only_one name n small;
-      no_stop = clean_one name n small;
+      no_stop = never_stops_one name n small;
       unseen = unseen_one name n small;
       worlds = worlds_one name n small;
       ram = ram_one name n small;

@@ -10,7 +10,7 @@ use Rattle.ns_turns.specs.Moments.{AlwaysKnowsRam}
 use Rattle.ns_turns.specs.FirstHandOver.{BeginsSealed}
 use Rattle.ns_turns.specs.Unseen.{Unseen}
 use Rattle.constant_entry.specs.Code.{start_place, entry_place, first_veneer, used_bytes, gateway_bytes}
-use Rattle.constant_entry.specs.Shows.{ShowsConstant, AlwaysClean}
+use Rattle.constant_entry.specs.Shows.{ShowsConstant, NeverStops}
 use Rattle.constant_entry.specs.Meaning.{one_veneer, enters_one, constant_run}
 use Rattle.import_lib.specs.Library.{library_of}
 use Rattle.cmse_build.specs.declared.image.Gate.{Gate}
@@ -40,11 +40,11 @@ pub record Builds (text library image : List ℕ) : Type 0 where
   -- the device shows what the program shows in a first call, and hands over first with both stacks sealed
   pub shows : ShowsConstant device n
   pub begins : BeginsSealed device
-  -- it does what the program does, whose entry is entered where the library lists it, and nothing else; and no event is a
-  -- stop that only a machine has
+  -- it does what the program does, whose entry is entered where the library lists it, and nothing else; and it never stops
+  -- in Secure code
   pub does : Refines device (enters_one name) (constant_run (enters_one name) n)
   pub only : Only device (enters_one name) (constant_run (enters_one name) n)
-  pub no_stop : AlwaysClean device
+  pub no_stop : NeverStops device
   -- no event depends on what Secure memory holds at the start, and two starts of which the program declares the same look
   -- the same
   pub unseen : Unseen device

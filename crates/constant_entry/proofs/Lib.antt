@@ -6,6 +6,7 @@ pub mod Seals
 pub mod Refine
 pub mod Whole
 pub mod Clean
+pub mod Callers
 pub mod Placed
 pub mod Tracked
 pub mod Room

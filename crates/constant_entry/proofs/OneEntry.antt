@@ -12,11 +12,12 @@ use Rattle.ns_turns.proofs.FirstLaws.{begins_sealed}
 use Rattle.ns_turns.proofs.UnseenLaws.{unseen}
 use Rattle.constant_entry.specs.Code.{constant_device}
 use Rattle.constant_entry.specs.Meaning.{enters_one, constant_run}
-use Rattle.constant_entry.specs.Shows.{AlwaysClean}
+use Rattle.constant_entry.specs.Shows.{NeverStops}
 use Rattle.constant_entry.proofs.Placed.{gives_constant}
 use Rattle.constant_entry.proofs.Entering.{by_first}
 use Rattle.constant_entry.proofs.Whole.{refines}
-use Rattle.constant_entry.proofs.Clean.{stops_as_program, always_clean}
+use Rattle.constant_entry.proofs.Clean.{stops_as_program}
+use Rattle.constant_entry.proofs.Callers.{never_stops}
 use Rattle.constant_entry.proofs.Tracked.{always_told, calls_few}
 use Rattle.constant_entry.proofs.Room.{has_room, ignores_secure}
 use Rattle.constant_entry.proofs.Quiet.{knows_ram}
@@ -44,8 +45,8 @@ module _ (name : List ℕ) (n : ℕ) (small : n < 4294967296) where
   unseen_one =
       unseen (constant_device n) (enters_one name) (constant_run (enters_one name) n) refines_one (ignores_secure (enters_one name) n) (has_room (enters_one name) n)
 
-  pub clean_one : AlwaysClean (constant_device n)
-  clean_one = always_clean (constant_device n) (enters_one name) (constant_run (enters_one name) n) only_one (has_room (enters_one name) n)
+  pub never_stops_one : NeverStops (constant_device n)
+  never_stops_one = never_stops (constant_device n) (enters_one name) n only_one (has_room (enters_one name) n)
 
 pub sealed_one : (n : ℕ) → n < 4294967296 → BeginsSealed (constant_device n)
 sealed_one n small = begins_sealed (constant_device n) (hands_over_sealed (constant_device n) n (gives_constant n small))

@@ -1,5 +1,7 @@
 -- What the machine shows of a program whose one entry gives a number.
-use Rattle.std.specs.Prelude.{◌≡◌, ℕ, ◌+◌, ◌%◌, eqb, ◌⊎◌, true, List, [], ◌∷◌}
+use Rattle.std.specs.Prelude.{◌≡◌, ℕ, ◌+◌, ◌%◌, eqb, ◌⊎◌, Bool, true, false, ◌&&◌, List, [], ◌∷◌}
+use Rattle.cm_base.specs.declared.stop.Stop.{Stop}
+use Rattle.cm_base.specs.declared.stop.Stop.TheVariants.{EntryPoint, Access, ReturnFault, Astray}
 use Rattle.ns_types.specs.declared.event.Event.{Event}
 use Rattle.ns_types.specs.declared.event.Event.TheVariants as event
 use Rattle.ns_types.specs.declared.event.End.TheVariants as end
@@ -12,7 +14,6 @@ use Rattle.ns_types.specs.SecureRam.{main_seal}
 use Rattle.ns_types.specs.Memory.{word_at, IsStart}
 use Rattle.ns_types.specs.Boundary.{view, in_four, start_mark, turn_mark}
 use Rattle.ns_types.specs.Gateway.{is_gateway}
-use Rattle.ns_types.specs.Stops.{is_clean}
 use Rattle.v8m_core.specs.Code.{HasCode}
 use Rattle.ns_turns.specs.Run.{machine_run}
 use Rattle.ns_types.specs.Prefix.{IsFront}
@@ -49,8 +50,25 @@ pub record ShowsConstant (device : Device) (n : ℕ) : Type 0 where
   pub front : (start : Start) (t : Turn) (k : ℕ) → is_nonsecure (word_at start.ns_rom 4) ≡ true → CallsFirst t → IsFront (machine_run device start (t ∷ []) k).list (two_views start t n)
   pub both : (start : Start) (t : Turn) → is_nonsecure (word_at start.ns_rom 4) ≡ true → CallsFirst t → (k : ℕ) × (machine_run device start (t ∷ []) k ≡ record { list = two_views start t n; end = end.Waiting })
 
--- No event of a run of the machine is a stop that only a machine has.
-abbrev pub AlwaysClean : Device → Type 0
-AlwaysClean device =
+-- the stops that Non-secure code makes: by where it branches, and by what its items touch
+abbrev pub is_callers_stop : Stop → Bool
+is_callers_stop EntryPoint = true
+is_callers_stop Access = true
+is_callers_stop ReturnFault = true
+is_callers_stop Astray = true
+is_callers_stop _ = false
+
+abbrev pub is_callers_event : Event → Bool
+is_callers_event (event.Given view) = true
+is_callers_event (event.Wrote at size value) = true
+is_callers_event (event.Stopped x) = is_callers_stop x
+
+abbrev pub all_callers : List Event → Bool
+all_callers [] = true
+all_callers (e ∷ es) = is_callers_event e && all_callers es
+
+-- Secure code never stops: each stop of a run of the machine is one that Non-secure code makes.
+abbrev pub NeverStops : Device → Type 0
+NeverStops device =
     (start : Start) → IsStart start → (ts : List Turn) → AreTurns ts → (k : ℕ)
-    → is_clean (machine_run device start ts k).list ≡ true
+    → all_callers (machine_run device start ts k).list ≡ true

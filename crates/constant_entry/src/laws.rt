@@ -14,7 +14,7 @@ ghost use Rattle.ns_turns.specs.TwoWorlds.{TwoWorlds};
 ghost use Rattle.ns_turns.specs.FirstHandOver.{BeginsSealed};
 ghost use Rattle.ns_turns.specs.Unseen.{Unseen};
 ghost use Rattle.constant_entry.specs.Code.{constant_device};
-ghost use Rattle.constant_entry.specs.Shows.{ShowsConstant, AlwaysClean};
+ghost use Rattle.constant_entry.specs.Shows.{ShowsConstant, NeverStops};
 ghost use Rattle.constant_entry.specs.Meaning.{enters_one, constant_run};
 
 /// A first call shows two views, the start's and the result's.
@@ -37,9 +37,9 @@ pub fn refinement()
         → OnlyDeclared (constant_device n) (enters_one name) (constant_run (enters_one name) n) }
 {}
 
-/// Secure code never stops as only a machine does.
-pub fn clean()
-    ensures { (n : ℕ) → n < 2 ^ 32 → AlwaysClean (constant_device n) }
+/// Secure code never stops: each stop of a run is one that Non-secure code makes.
+pub fn never_stops()
+    ensures { (n : ℕ) → n < 2 ^ 32 → NeverStops (constant_device n) }
 {}
 
 /// Two starts of which the program declares the same look the same to the caller.

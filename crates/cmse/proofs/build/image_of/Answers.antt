@@ -4,7 +4,7 @@ use Rattle.cmse_build.specs.Constant.{is_entry_name}
 use Rattle.cmse_build.specs.Reading.{rom_of_image, rom_used_most, gateways_size, zeros, word, is_entry}
 use Rattle.cmse_build.specs.Image.{image_of}
 use Rattle.cmse_build.proofs.Ready.{image_ready}
-use Rattle.constant_entry.specs.Code.{start_place, entry_place, rom_bytes, used_bytes, gateway_bytes}
+use Rattle.constant_entry.specs.Code.{start_place, rom_bytes, used_bytes, gateway_bytes}
 use Rattle.constant_entry.proofs.Placed.{used_size, region_size}
 use Rattle.cmse.specs.Build.{one_gate}
 use Rattle.cmse.proofs.BuildLaws.{entry_word, same_rom, same_file}
@@ -16,7 +16,7 @@ write_image-requires c =
     let region : c.as_slice-2.result.now ≡ gateway_bytes = c.as_slice-2.ensures ∙ c.in_ok-region.ensures in
     let a : length c.as_slice.result.now ≡ 234 = ap length rom ∙ used_size c.args.n in
     let b : length c.as_slice-2.result.now ≡ gateways_size = ap length region ∙ region_size in
-    image_ready c.in_ok-from_slice.field-0 c.as_slice.result.now c.as_slice-2.result.now entry_place (subst (λ n. is_entry_name n ≡ true) (sym c.in_ok-from_slice.ensures) c.requires) (omega arith) (omega arith)
+    image_ready c.in_ok-from_slice.field-0 c.as_slice.result.now c.as_slice-2.result.now _ (subst (λ n. is_entry_name n ≡ true) (sym c.in_ok-from_slice.ensures) c.requires) (omega arith) (omega arith)
 
 pub returns-clause-file : goal.returns-clause-file
 returns-clause-file c =
