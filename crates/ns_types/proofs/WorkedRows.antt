@@ -100,6 +100,20 @@ calls_itself : answered 3 (turn 0x103FF000 0 0 0 0x103FF001 [] ∷ []) ≡ recor
 unfolding goes_of word_at
 calls_itself = refl
 
+-- the caller sees the start alone
+calls_itself_shows : events_shown (show answer_at (started ∷ marked (c.Result 0 42) 0x103FF000 0 0 ∷ marked (c.Result 0 42) 0x103FF000 0 0 ∷ [])) ≡ first ∷ []
+unfolding goes_of
+calls_itself_shows = refl
+
+calls_itself_declares : Declares (first ∷ []) (show answer_at (started ∷ marked (c.Result 0 42) 0x103FF000 0 0 ∷ marked (c.Result 0 42) 0x103FF000 0 0 ∷ []))
+unfolding goes_of
+calls_itself_declares = ((refl, tt), tt)
+
+-- Non-secure RAM at the hand-overs of the one call is that of the start
+one_call_ram : ram_at answer_at one_call_events 1 one_call start.ns_ram ≡ Some start.ns_ram
+unfolding goes_of
+one_call_ram = refl
+
 -- A program with three entries: twice calls Non-secure code with a number and adds the number to the answer, one adds 1,
 -- and poke writes a word
 
@@ -220,6 +234,25 @@ counts_anew : played 1 (turn 0x103FF000 0x301 5 0 0x103FF009 [] ∷ turn 0xFEFFF
 }
 unfolding goes_of word_at
 counts_anew = refl
+
+-- the caller sees the start and the call
+counts_anew_shows : events_shown (show entry_at (started ∷ marked (c.Called 0x300 (5 ∷ [])) 0x300 0 0 ∷ marked (c.Result 0 5) 0x103FF008 0 0 ∷ marked (c.Result 1 6) 0x103FF008 0 0 ∷ []))
+    ≡ first ∷ given 0x300 5 0 0x300 0xFEFFFFFF 0 ∷ []
+unfolding goes_of
+counts_anew_shows = refl
+
+counts_anew_declares : Declares (first ∷ given 0x300 5 0 0x300 0xFEFFFFFF 0 ∷ []) (show entry_at (started ∷ marked (c.Called 0x300 (5 ∷ [])) 0x300 0 0 ∷ marked (c.Result 0 5) 0x103FF008 0 0 ∷ marked (c.Result 1 6) 0x103FF008 0 0 ∷ []))
+unfolding goes_of
+counts_anew_declares = ((refl, tt), ((refl, refl), tt))
+
+-- Non-secure RAM at the last hand-overs of the runs that nest is that of the start
+nests_ram : ram_at entry_at nests_events 3 nests start.ns_ram ≡ Some start.ns_ram
+unfolding goes_of
+nests_ram = refl
+
+answers_ram : ram_at entry_at answers_events 2 answers start.ns_ram ≡ Some start.ns_ram
+unfolding goes_of
+answers_ram = refl
 
 -- a byte that Non-secure code writes, and then a word that poke writes
 abbrev pokes : List Turn
