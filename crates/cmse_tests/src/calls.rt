@@ -1,7 +1,7 @@
 //! Commands over stores and sinks in memory: each helper owns one of them, and tells whether all was as expected.
 
 use cm_base::{Bytes, MemSink, MemStore, NoMemory, Store, Text};
-use cmse_top::{cmse_main, status_text};
+use cmse::{cmse_main, status_text};
 use std::alloc::Global;
 
 /// One line of C with an entry that returns 42.
