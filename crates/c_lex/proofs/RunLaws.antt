@@ -5,7 +5,7 @@ use Rattle.std.specs.List.{list_all}
 use Rattle.c_lex.specs.Classes.{begins, Run}
 use Rattle.c_lex.specs.Reading.{front, back}
 
-front-cons : (p : ℕ → Bool) (b : ℕ) (bs : List ℕ) → p b ≡ true → front p (b ∷ bs) ≡ b ∷ front p bs
+pub front-cons : (p : ℕ → Bool) (b : ℕ) (bs : List ℕ) → p b ≡ true → front p (b ∷ bs) ≡ b ∷ front p bs
 front-cons p b bs e = rw e refl
 
 front-stop : (p : ℕ → Bool) (b : ℕ) (bs : List ℕ) → p b ≡ false → front p (b ∷ bs) ≡ []
@@ -51,7 +51,7 @@ every_step : (p : ℕ → Bool) (b : ℕ) (t : List ℕ) (c : Bool) → p b ≡ 
 every_step p b t true e h = rw (e, h) refl
 every_step p b t false e h = refl
 
-every_front : (p : ℕ → Bool) (t : List ℕ) → list_all p (front p t) ≡ true
+pub every_front : (p : ℕ → Bool) (t : List ℕ) → list_all p (front p t) ≡ true
 every_front p [] = refl
 every_front p (b ∷ t) = every_step p b t (p b) refl (every_front p t)
 
