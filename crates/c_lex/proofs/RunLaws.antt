@@ -8,13 +8,13 @@ use Rattle.c_lex.specs.Reading.{front, back}
 pub front-cons : (p : ℕ → Bool) (b : ℕ) (bs : List ℕ) → p b ≡ true → front p (b ∷ bs) ≡ b ∷ front p bs
 front-cons p b bs e = rw e refl
 
-front-stop : (p : ℕ → Bool) (b : ℕ) (bs : List ℕ) → p b ≡ false → front p (b ∷ bs) ≡ []
+pub front-stop : (p : ℕ → Bool) (b : ℕ) (bs : List ℕ) → p b ≡ false → front p (b ∷ bs) ≡ []
 front-stop p b bs e = rw e refl
 
-back-cons : (p : ℕ → Bool) (b : ℕ) (bs : List ℕ) → p b ≡ true → back p (b ∷ bs) ≡ back p bs
+pub back-cons : (p : ℕ → Bool) (b : ℕ) (bs : List ℕ) → p b ≡ true → back p (b ∷ bs) ≡ back p bs
 back-cons p b bs e = rw e refl
 
-back-stop : (p : ℕ → Bool) (b : ℕ) (bs : List ℕ) → p b ≡ false → back p (b ∷ bs) ≡ b ∷ bs
+pub back-stop : (p : ℕ → Bool) (b : ℕ) (bs : List ℕ) → p b ≡ false → back p (b ∷ bs) ≡ b ∷ bs
 back-stop p b bs e = rw e refl
 
 pub run_more : (p : ℕ → Bool) (xs : List ℕ) (i n : ℕ) → i < length xs → p (get_or xs i 0) ≡ true → i + length (front p (drop i xs)) ≡ n → (i + 1) + length (front p (drop (i + 1) xs)) ≡ n
@@ -67,7 +67,7 @@ begins_back p (b ∷ t) = begins_step p b t (p b) refl (begins_back p t)
 pub run_is : (p : ℕ → Bool) (t : List ℕ) → Run p (front p t) (back p t) t
 run_is p t = record { parts = sym (front_back p t); each = every_front p t; ends = begins_back p t }
 
-both : (a b : Bool) → (a && b) ≡ true → (a ≡ true) × (b ≡ true)
+pub both : (a b : Bool) → (a && b) ≡ true → (a ≡ true) × (b ≡ true)
 both true b e = (refl, e)
 both false b e = absurd cc
 
@@ -96,6 +96,9 @@ drop_front p t = ap (drop (length (front p t))) (sym (front_back p t)) ∙ drop_
 
 pub front_fits : (p : ℕ → Bool) (t : List ℕ) → length (front p t) ≤ length t
 front_fits p t = omega (arith, length-append (front p t) (back p t), ap length (front_back p t))
+
+pub back_fits : (p : ℕ → Bool) (t : List ℕ) → length (back p t) ≤ length t
+back_fits p t = omega (arith, length-append (front p t) (back p t), ap length (front_back p t))
 
 -- for the tactics
 pub ruleset runs = (take_front, drop_front, front_fits)

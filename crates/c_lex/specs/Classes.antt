@@ -39,6 +39,10 @@ is_no_text b = not (within 32 126 b || b == 9 || b == 10 || b == 13)
 unfoldable pub is_plain : ℕ → Bool
 is_plain b = (within 32 126 b || b == 9 || b == 13) && not (b == 92)
 
+-- a byte that stands for itself in a string: no quote
+unfoldable pub is_in_string : ℕ → Bool
+is_in_string b = is_plain b && not (b == 34)
+
 -- what no token begins with: @, $, ` and \, and what is in no text
 unfoldable pub is_stray : ℕ → Bool
 is_stray b = is_no_text b || b == 64 || b == 36 || b == 96 || b == 92
@@ -55,6 +59,7 @@ is_in class.Line = is_in_line
 is_in class.U = is_u
 is_in class.L = is_l
 is_in class.Plain = is_plain
+is_in class.Str = is_in_string
 
 -- the value of a digit, hexadecimal ones too
 unfoldable pub digit_value : ℕ → ℕ
