@@ -82,7 +82,7 @@ plain_front cut (b ∷ r) = go (is_in_string b) refl (plain_front cut r)
         let k : suc (length r + 1) ≡ length (b ∷ r) + 1 = omega arith in
         rw (front-cons is_in_string b r e, back-cons is_in_string b r e)
         (front_more b (front is_in_string r) (string_at cut (length (back is_in_string r) + 1) (back is_in_string r))
-          ∙ ap (λ (z : Read (List ℕ)). z >>= λ y. Ok (b ∷ y.0, y.1)) ih ∙ sym (one_plain cut (length r + 1) b r e) ∙ ap (λ (n : ℕ). string_at cut n (b ∷ r)) k)
+        ∙ ap (λ (z : Read (List ℕ)). z >>= λ y. Ok (b ∷ y.0, y.1)) ih ∙ sym (one_plain cut (length r + 1) b r e) ∙ ap (λ (n : ℕ). string_at cut n (b ∷ r)) k)
     go false e ih = rw (front-stop is_in_string b r e, back-stop is_in_string b r e) (front_nothing (string_at cut (length (b ∷ r) + 1) (b ∷ r)))
 
 -- how the loop begins

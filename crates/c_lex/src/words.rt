@@ -97,7 +97,11 @@ fn likely_word(first: u8, size: usize, last: u8) -> Option<Keyword>
         b'_' => Some(Keyword::Attribute),
         b'b' => Some(Keyword::Break),
         b'c' => likely_c(size, last),
-        b'd' => Some(if size == 2 { Keyword::Do } else { Keyword::Default }),
+        b'd' => Some(if size == 2 {
+            Keyword::Do
+        } else {
+            Keyword::Default
+        }),
         b'e' => likely_e(last),
         b'f' => Some(Keyword::For),
         b'i' => likely_i(last),
@@ -106,7 +110,11 @@ fn likely_word(first: u8, size: usize, last: u8) -> Option<Keyword>
         b's' => likely_s(size, last),
         b't' => Some(Keyword::Typedef),
         b'u' => Some(Keyword::Unsigned),
-        b'v' => Some(if size == 4 { Keyword::Void } else { Keyword::Volatile }),
+        b'v' => Some(if size == 4 {
+            Keyword::Void
+        } else {
+            Keyword::Volatile
+        }),
         b'w' => Some(Keyword::While),
         _ => None,
     }
@@ -118,7 +126,11 @@ fn likely_c(size: usize, last: u8) -> Option<Keyword>
     match last {
         b't' => Some(Keyword::Const),
         b'r' => Some(Keyword::Char),
-        b'e' => Some(if size == 4 { Keyword::Case } else { Keyword::Continue }),
+        b'e' => Some(if size == 4 {
+            Keyword::Case
+        } else {
+            Keyword::Continue
+        }),
         _ => None,
     }
 }
@@ -150,7 +162,11 @@ fn likely_s(size: usize, last: u8) -> Option<Keyword>
 {
     match last {
         b'c' => Some(Keyword::Static),
-        b't' => Some(if size == 5 { Keyword::Short } else { Keyword::Struct }),
+        b't' => Some(if size == 5 {
+            Keyword::Short
+        } else {
+            Keyword::Struct
+        }),
         b'd' => Some(Keyword::Signed),
         b'h' => Some(Keyword::Switch),
         b'f' => Some(Keyword::Sizeof),
@@ -165,11 +181,19 @@ fn likely_left_out(first: u8, size: usize, last: u8) -> Option<LeftOut>
 {
     match first {
         b'_' => likely_under(size, last),
-        b'a' => Some(if size == 3 { LeftOut::Asm } else { LeftOut::Auto }),
+        b'a' => Some(if size == 3 {
+            LeftOut::Asm
+        } else {
+            LeftOut::Auto
+        }),
         b'd' => Some(LeftOut::Double),
         b'f' => Some(LeftOut::Float),
         b'g' => Some(LeftOut::Goto),
-        b'r' => Some(if last == b'r' { LeftOut::Register } else { LeftOut::Restrict }),
+        b'r' => Some(if last == b'r' {
+            LeftOut::Register
+        } else {
+            LeftOut::Restrict
+        }),
         b'u' => Some(LeftOut::Union),
         _ => None,
     }
@@ -179,11 +203,19 @@ fn likely_under(size: usize, last: u8) -> Option<LeftOut>
     ensures { result ≡ likely.likely_under size last }
 {
     match last {
-        b'l' => Some(if size == 5 { LeftOut::Bool } else { LeftOut::ThreadLocal }),
+        b'l' => Some(if size == 5 {
+            LeftOut::Bool
+        } else {
+            LeftOut::ThreadLocal
+        }),
         b'x' => Some(LeftOut::Complex),
         b's' => Some(LeftOut::Alignas),
         b'f' => Some(LeftOut::Alignof),
-        b'c' => Some(if size == 7 { LeftOut::Atomic } else { LeftOut::Generic }),
+        b'c' => Some(if size == 7 {
+            LeftOut::Atomic
+        } else {
+            LeftOut::Generic
+        }),
         b'n' => Some(LeftOut::Noreturn),
         b't' => Some(LeftOut::StaticAssert),
         _ => None,
@@ -199,7 +231,13 @@ pub fn word_of(name: &[u8]) -> Option<Keyword>
         return None;
     }
     match likely_word(name[0], name.len(), name[name.len() - 1]) {
-        Some(word) => { if word_text(word) == name { Some(word) } else { None } }
+        Some(word) => {
+            if word_text(word) == name {
+                Some(word)
+            } else {
+                None
+            }
+        }
         None => None,
     }
 }
