@@ -1,10 +1,11 @@
 -- Names and words.
-use Rattle.std.proofs.Common.{◌≡◌, ℕ, ◌<◌, ◌≤◌, Bool, true, false, cond, ◌||◌, ltb, List, [], ◌∷◌, length, Option, Some, None, Ok, Err, refl, sym, ap, ◌∙◌}
+use Rattle.std.proofs.Common.{◌≡◌, ℕ, ◌-◌, ◌<◌, ◌≤◌, Bool, true, false, cond, ◌||◌, ltb, List, [], ◌∷◌, length, get_or, Option, Some, None, Ok, Err, refl, sym, ap, subst, ◌∙◌}
 use Rattle.std.specs.Prelude.{find}
 use Rattle.std.specs.List.{list_any}
-use Rattle.std.proofs.lemmas.Bool.{le-ltb, lt-ltb}
+use Rattle.std.proofs.lemmas.Bool.{le-leb, le-ltb, lt-ltb}
 use Rattle.std.proofs.lemmas.Bool.Decides.{Decides-eqb}
 use Rattle.std.proofs.lemmas.Slice.Eq.{slice_eq-Decides}
+use Rattle.c_names.specs.Name.{is_name}
 use Rattle.c_lex.specs.declared.token.Kind.TheVariants as kind
 use Rattle.c_lex.specs.declared.token.Keyword.{Keyword}
 use Rattle.c_lex.specs.declared.token.Keyword.TheVariants as word_is
@@ -12,9 +13,10 @@ use Rattle.c_lex.specs.declared.words.LeftOut.{LeftOut}
 use Rattle.c_lex.specs.declared.words.LeftOut.TheVariants as left_is
 use Rattle.c_lex.specs.Classes.{is_letter, is_name_byte, begins, Run}
 use Rattle.c_lex.specs.Spelling.{word_text, keywords, left_out_text, left_out_words, IsNoWord}
+use Rattle.c_lex.specs.Likely.{likely_word, likely_left_out}
 use Rattle.c_lex.specs.Tokens.{Spelled, name, word, Faulty, long_name, left_out, E01, E06}
 use Rattle.c_lex.specs.Reading.{fault, front, back, same_text, word_of, is_left_out, named, name_at}
-use Rattle.c_lex.proofs.RunLaws.{run_is, run_front, run_back}
+use Rattle.c_lex.proofs.RunLaws.{front-cons, every_front, run_is, run_front, run_back}
 use Rattle.c_lex.proofs.Right.{Right, done, faults, either, ltb_no, ltb_yes}
 
 -- ---- the tables
@@ -93,6 +95,9 @@ left_no_word left_is.ThreadLocal = refl
 same_is : (a b : List ℕ) → same_text a b ≡ true → a ≡ b
 same_is a b = (slice_eq-Decides Decides-eqb a b (same_text a b) refl).0
 
+is_same : (a b : List ℕ) → a ≡ b → same_text a b ≡ true
+is_same a b = (slice_eq-Decides Decides-eqb a b (same_text a b) refl).1
+
 find_holds : {A : Type 0} (p : A → Bool) (xs : List A) (y : A) → find p xs ≡ Some y → p y ≡ true
 find_holds p [] y e = absurd cc
 find_holds p (x ∷ xs) y e = go (λ k. find_holds p xs y k) (p x) refl e
@@ -116,6 +121,117 @@ word_found s w e = sym (same_is (word_text w) s (find_holds (λ v. same_text (wo
 left_found : (s : List ℕ) → is_left_out s ≡ true → (w : LeftOut) × (s ≡ left_out_text w)
 unfolding is_left_out
 left_found s e = let f = any_holds (λ v. same_text (left_out_text v) s) left_out_words e in (f.0, sym (same_is (left_out_text f.0) s f.1))
+
+-- ---- which word a name may be
+
+abbrev word_like : List ℕ → Option Keyword
+word_like s = likely_word (get_or s 0 0) (length s) (get_or s (length s - 1) 0)
+
+abbrev left_like : List ℕ → Option LeftOut
+left_like s = likely_left_out (get_or s 0 0) (length s) (get_or s (length s - 1) 0)
+
+word_is_likely : (w : Keyword) → word_like (word_text w) ≡ Some w
+unfolding likely_word
+word_is_likely word_is.Typedef = refl
+word_is_likely word_is.Extern = refl
+word_is_likely word_is.Static = refl
+word_is_likely word_is.Inline = refl
+word_is_likely word_is.Const = refl
+word_is_likely word_is.Volatile = refl
+word_is_likely word_is.Void = refl
+word_is_likely word_is.Char = refl
+word_is_likely word_is.Short = refl
+word_is_likely word_is.Int = refl
+word_is_likely word_is.Long = refl
+word_is_likely word_is.Signed = refl
+word_is_likely word_is.Unsigned = refl
+word_is_likely word_is.Struct = refl
+word_is_likely word_is.Enum = refl
+word_is_likely word_is.Attribute = refl
+word_is_likely word_is.Return = refl
+word_is_likely word_is.Break = refl
+word_is_likely word_is.Continue = refl
+word_is_likely word_is.If = refl
+word_is_likely word_is.Else = refl
+word_is_likely word_is.While = refl
+word_is_likely word_is.Do = refl
+word_is_likely word_is.For = refl
+word_is_likely word_is.Switch = refl
+word_is_likely word_is.Case = refl
+word_is_likely word_is.Default = refl
+word_is_likely word_is.Sizeof = refl
+
+left_is_likely : (w : LeftOut) → left_like (left_out_text w) ≡ Some w
+unfolding likely_left_out
+left_is_likely left_is.Float = refl
+left_is_likely left_is.Double = refl
+left_is_likely left_is.Bool = refl
+left_is_likely left_is.Complex = refl
+left_is_likely left_is.Union = refl
+left_is_likely left_is.Goto = refl
+left_is_likely left_is.Auto = refl
+left_is_likely left_is.Register = refl
+left_is_likely left_is.Restrict = refl
+left_is_likely left_is.Asm = refl
+left_is_likely left_is.Alignas = refl
+left_is_likely left_is.Alignof = refl
+left_is_likely left_is.Atomic = refl
+left_is_likely left_is.Generic = refl
+left_is_likely left_is.Noreturn = refl
+left_is_likely left_is.StaticAssert = refl
+left_is_likely left_is.ThreadLocal = refl
+
+pub word_same : (s : List ℕ) (w : Keyword) → same_text (word_text w) s ≡ true → word_of s ≡ Some w
+word_same s w e = ap word_of (sym (same_is (word_text w) s e)) ∙ word_known w
+
+pub word_empty : (s : List ℕ) → s ≡ [] → word_of s ≡ None
+unfolding word_of keywords
+word_empty [] e = refl
+word_empty (b ∷ s) e = absurd cc
+
+pub word_unlike : (s : List ℕ) → word_like s ≡ None → word_of s ≡ None
+word_unlike s h = go (word_of s) refl
+  where
+    go : (o : Option Keyword) → word_of s ≡ o → o ≡ None
+    go None e = refl
+    go (Some v) e = absurd (let k : word_like s ≡ Some v = ap word_like (word_found s v e) ∙ word_is_likely v in cc)
+
+pub word_other : (s : List ℕ) (w : Keyword) → word_like s ≡ Some w → same_text (word_text w) s ≡ false → word_of s ≡ None
+word_other s w h d = go (word_of s) refl
+  where
+    go : (o : Option Keyword) → word_of s ≡ o → o ≡ None
+    go None e = refl
+    go (Some v) e = absurd (
+        let k : word_like s ≡ Some v = ap word_like (word_found s v e) ∙ word_is_likely v in
+        let same : v ≡ w = cc in
+        let t : same_text (word_text w) s ≡ true = is_same (word_text w) s (sym (word_found s v e ∙ ap word_text same)) in cc)
+
+pub left_empty : (s : List ℕ) → s ≡ [] → is_left_out s ≡ false
+unfolding is_left_out left_out_words
+left_empty [] e = refl
+left_empty (b ∷ s) e = absurd cc
+
+pub left_unlike : (s : List ℕ) → left_like s ≡ None → is_left_out s ≡ false
+left_unlike s h = go (is_left_out s) refl
+  where
+    go : (c : Bool) → is_left_out s ≡ c → c ≡ false
+    go false e = refl
+    go true e = absurd (let f = left_found s e in let k : left_like s ≡ Some f.0 = ap left_like f.1 ∙ left_is_likely f.0 in cc)
+
+pub left_tested : (s : List ℕ) (w : LeftOut) → left_like s ≡ Some w → same_text (left_out_text w) s ≡ is_left_out s
+left_tested s w h = go (same_text (left_out_text w) s) refl (is_left_out s) refl
+  where
+    go : (a : Bool) → same_text (left_out_text w) s ≡ a → (b : Bool) → is_left_out s ≡ b → a ≡ b
+    go true e b f = sym (ap is_left_out (sym (same_is (left_out_text w) s e)) ∙ left_known w) ∙ f
+    go false e false f = refl
+    go false e true f = absurd (
+        let v = left_found s f in
+        let k : left_like s ≡ Some v.0 = ap left_like v.1 ∙ left_is_likely v.0 in
+        let same : v.0 ≡ w = cc in
+        let t : same_text (left_out_text w) s ≡ true = is_same (left_out_text w) s (sym (v.1 ∙ ap left_out_text same)) in cc)
+
+-- for the tactics
+pub ruleset words = (word_same, word_unlike, word_other, left_unlike, left_tested)
 
 no_word : (s : List ℕ) → word_of s ≡ None → is_left_out s ≡ false → IsNoWord s
 no_word s e f = record {
@@ -168,3 +284,20 @@ read_left_out text s rest w r e =
 
 pub read_long_name : (text s rest : List ℕ) → Run is_name_byte s rest text → IsNoWord s → 255 < length s → name_at text ≡ Err (fault E01 text)
 read_long_name text s rest r n l = read_run text s rest r ∙ rw (none_of s n, not_left s n, lt-ltb 255 (length s) l) refl
+
+-- ---- what is kept
+
+pub letter_goes_on : (b : ℕ) → is_letter b ≡ true → is_name_byte b ≡ true
+unfolding is_name_byte
+letter_goes_on b e = rw e refl
+
+-- the longest run of a name's bytes, where it begins with a letter and isn't too long, is a name
+pub front_is_name : (text : List ℕ) → begins is_letter text ≡ true → length (front is_name_byte text) ≤ 255 → is_name (front is_name_byte text) ≡ true
+unfolding is_name
+front_is_name [] e l = absurd cc
+front_is_name (b ∷ bs) e l =
+    let c = front-cons is_name_byte b bs (letter_goes_on b e) in
+    rw c (rw (e, every_front is_name_byte bs, le-leb _ 255 (subst (λ (s : List ℕ). length s ≤ 255) c l)) refl)
+
+-- for the tactics
+pub ruleset names = (front_is_name)

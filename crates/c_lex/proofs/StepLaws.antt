@@ -1,5 +1,5 @@
 -- One step of the split, and the split as a loop does it.
-use Rattle.std.proofs.Common.{◌≡◌, ◌≢◌, ℕ, ◌+◌, ◌-◌, ◌<◌, ◌≤◌, Bool, true, List, [], ◌∷◌, ◌++◌, length, take, drop, Option, Ok, refl, sym, ap, subst, ◌∙◌, append_assoc, arith}
+use Rattle.std.proofs.Common.{◌≡◌, ◌≢◌, ℕ, ◌+◌, ◌-◌, ◌<◌, ◌≤◌, Bool, true, false, List, [], ◌∷◌, ◌++◌, length, take, drop, Option, None, Ok, refl, sym, ap, subst, ◌∙◌, append_assoc, arith}
 use Rattle.std.proofs.lemmas.List.{take_at, length-append, append-nil}
 use Rattle.c_lex.specs.declared.fault.PieceError.{PieceError}
 use Rattle.c_lex.specs.declared.fault.PieceError.TheVariants as errors
@@ -8,9 +8,9 @@ use Rattle.c_lex.specs.declared.token.Kind.{Kind}
 use Rattle.c_lex.specs.declared.token.Punct.{Punct}
 use Rattle.c_lex.specs.declared.token.Token.{Token}
 use Rattle.std.specs.Prelude.{codes}
-use Rattle.c_lex.specs.Classes.{is_letter, is_octal, is_name_byte, begins, Run}
+use Rattle.c_lex.specs.Classes.{is_letter, is_octal, is_name_byte, is_space, begins, Run}
 use Rattle.c_lex.specs.Spelling.{mark_text, header_text, begins_hex, Digits, hex, octal, decimal, Item, plain, simple, hex_one, hex_two, octal_one, octal_two, octal_three, Items}
-use Rattle.c_lex.specs.Spot.{start, after}
+use Rattle.c_lex.specs.Spot.{start, past, after}
 use Rattle.c_lex.specs.Tokens.{
   Spelled,
   name,
@@ -46,10 +46,12 @@ use Rattle.c_lex.specs.Tokens.{
   hash,
   open_comment,
 }
-use Rattle.c_lex.specs.Reading.{Fails, piece_at, IfAt, Step, Stuck, EndsAt, AreTokens}
+use Rattle.c_lex.specs.Reading.{Fails, front, back, piece_at, IfAt, Step, Stuck, EndsAt, AreTokens}
 use Rattle.c_lex.proofs.MarkLaws.{no_empty_mark}
+use Rattle.c_lex.proofs.NameLaws.{letter_goes_on}
 use Rattle.c_lex.proofs.PieceLaws.{piece_right}
 use Rattle.c_lex.proofs.ReadLaws.{begun}
+use Rattle.c_lex.proofs.RunLaws.{front-cons, front-stop, back-cons, back-stop}
 use Rattle.c_lex.proofs.Spots.{after-line, after-col}
 
 -- some bytes, and then the rest
@@ -63,9 +65,8 @@ pub record Shorter (text rest : List ℕ) : Type 0 where
   pub some : 0 < length bytes
 
 letter_name : (text : List ℕ) → begins is_letter text ≡ true → begins is_name_byte text ≡ true
-unfolding is_name_byte
 letter_name [] h = absurd cc
-letter_name (b ∷ r) h = rw h refl
+letter_name (b ∷ r) h = letter_goes_on b h
 
 zero_octal : is_octal 48 ≡ true
 unfolding is_octal
@@ -227,6 +228,23 @@ so_far_goes unit text tokens p q rest k more h s =
       line = omega arith;
       col = omega arith;
     }
+
+-- a blank or a line end is a piece that is no token
+one_space : (p : Spot) (b : ℕ) (rest : List ℕ) → is_space b ≡ true → Step p (b ∷ rest) None (past p b) rest
+one_space p b rest e = record { bytes = b ∷ []; parts = refl; some = not_empty (b ∷ []) (omega arith); piece = space refl e; at = refl }
+
+-- all of them at the front may be skipped
+pub so_far_skips : (unit : ℕ) (text : List ℕ) (tokens : List Token) (p : Spot) (rest : List ℕ) → SoFar unit text tokens p rest →
+    SoFar unit text tokens (after p (front is_space rest)) (back is_space rest)
+so_far_skips unit text tokens p [] h = h
+so_far_skips unit text tokens p (b ∷ r) h = go (is_space b) refl (λ k. so_far_skips unit text tokens (past p b) r k)
+  where
+    go : (c : Bool) → is_space b ≡ c → (SoFar unit text tokens (past p b) r → SoFar unit text tokens (after (past p b) (front is_space r)) (back is_space r)) →
+        SoFar unit text tokens (after p (front is_space (b ∷ r))) (back is_space (b ∷ r))
+    go true e ih =
+        let one = subst (λ (z : List Token). SoFar unit text z (past p b) r) (append-nil tokens) (so_far_goes unit text tokens p (past p b) (b ∷ r) None r h (one_space p b r e)) in
+        rw (front-cons is_space b r e, back-cons is_space b r e) (ih one)
+    go false e ih = rw (front-stop is_space b r e, back-stop is_space b r e) h
 
 has_bytes : (s : List ℕ) → s ≢ [] → 0 < length s
 has_bytes [] h = absurd (h refl)

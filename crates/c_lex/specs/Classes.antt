@@ -1,26 +1,16 @@
 -- Classes of bytes, and runs of them (C11 5.2.1, 6.4).
 use Rattle.std.specs.Prelude.{◌≡◌, ℕ, ◌-◌, Bool, true, false, not, ◌&&◌, ◌||◌, nat_le, ◌==◌, List, [], ◌∷◌, ◌++◌, if◌then◌else◌}
+use Rattle.std.specs.List.{list_all}
+pub use Rattle.c_names.specs.Name.{within}
+unfoldable pub use Rattle.c_names.specs.Name.{is_letter, is_digit, is_name_byte}
 use Rattle.c_lex.specs.declared.class.Class.{Class}
 use Rattle.c_lex.specs.declared.class.Class.TheVariants as class
-
-abbrev pub within : ℕ → ℕ → ℕ → Bool
-within low high b = nat_le low b && nat_le b high
-
--- A to Z, a to z and _
-unfoldable pub is_letter : ℕ → Bool
-is_letter b = within 65 90 b || within 97 122 b || b == 95
-
-unfoldable pub is_digit : ℕ → Bool
-is_digit b = within 48 57 b
 
 unfoldable pub is_octal : ℕ → Bool
 is_octal b = within 48 55 b
 
 unfoldable pub is_hex : ℕ → Bool
 is_hex b = within 48 57 b || within 65 70 b || within 97 102 b
-
-unfoldable pub is_name_byte : ℕ → Bool
-is_name_byte b = is_letter b || is_digit b
 
 -- a space, a tab or a carriage return
 unfoldable pub is_blank : ℕ → Bool
@@ -49,6 +39,10 @@ is_no_text b = not (within 32 126 b || b == 9 || b == 10 || b == 13)
 unfoldable pub is_plain : ℕ → Bool
 is_plain b = (within 32 126 b || b == 9 || b == 13) && not (b == 92)
 
+-- a byte that stands for itself in a string: no quote
+unfoldable pub is_in_string : ℕ → Bool
+is_in_string b = is_plain b && not (b == 34)
+
 -- what no token begins with: @, $, ` and \, and what is in no text
 unfoldable pub is_stray : ℕ → Bool
 is_stray b = is_no_text b || b == 64 || b == 36 || b == 96 || b == 92
@@ -65,6 +59,7 @@ is_in class.Line = is_in_line
 is_in class.U = is_u
 is_in class.L = is_l
 is_in class.Plain = is_plain
+is_in class.Str = is_in_string
 
 -- the value of a digit, hexadecimal ones too
 unfoldable pub digit_value : ℕ → ℕ
@@ -80,12 +75,8 @@ abbrev pub begins_with : ℕ → List ℕ → Bool
 begins_with q [] = false
 begins_with q (b ∷ _) = b == q
 
-abbrev pub every : (ℕ → Bool) → List ℕ → Bool
-every p [] = true
-every p (b ∷ bs) = p b && every p bs
-
 -- The text is the run, of bytes of the class alone, and then the rest, which begins with no such byte.
 pub record Run (p : ℕ → Bool) (run rest text : List ℕ) : Type 0 where
   pub parts : text ≡ run ++ rest
-  pub each : every p run ≡ true
+  pub each : list_all p run ≡ true
   pub ends : begins p rest ≡ false

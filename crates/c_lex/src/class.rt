@@ -21,8 +21,11 @@ pub enum Class {
     L,
     /// What stands for itself in a literal.
     Plain,
+    /// What stands for itself in a string.
+    Str,
 }
 
+#[inline(always)]
 #[tactic(auto, unfolding(crate::specs::Classes::is_letter))]
 fn is_letter(b: u8) -> bool
     ensures { result ≡ spec.is_letter b }
@@ -30,6 +33,7 @@ fn is_letter(b: u8) -> bool
     matches!(b, b'A'..=b'Z' | b'a'..=b'z' | b'_')
 }
 
+#[inline(always)]
 #[tactic(auto, unfolding(crate::specs::Classes::is_digit))]
 fn is_digit(b: u8) -> bool
     ensures { result ≡ spec.is_digit b }
@@ -37,6 +41,7 @@ fn is_digit(b: u8) -> bool
     matches!(b, b'0'..=b'9')
 }
 
+#[inline(always)]
 #[tactic(auto, unfolding(crate::specs::Classes::is_octal))]
 fn is_octal(b: u8) -> bool
     ensures { result ≡ spec.is_octal b }
@@ -44,6 +49,7 @@ fn is_octal(b: u8) -> bool
     matches!(b, b'0'..=b'7')
 }
 
+#[inline(always)]
 #[tactic(auto, unfolding(crate::specs::Classes::is_hex))]
 fn is_hex(b: u8) -> bool
     ensures { result ≡ spec.is_hex b }
@@ -51,6 +57,7 @@ fn is_hex(b: u8) -> bool
     matches!(b, b'0'..=b'9' | b'A'..=b'F' | b'a'..=b'f')
 }
 
+#[inline(always)]
 #[tactic(auto, unfolding(crate::specs::Classes::is_name_byte))]
 fn is_name_byte(b: u8) -> bool
     ensures { result ≡ spec.is_name_byte b }
@@ -58,6 +65,7 @@ fn is_name_byte(b: u8) -> bool
     is_letter(b) || is_digit(b)
 }
 
+#[inline(always)]
 #[tactic(auto, unfolding(crate::specs::Classes::is_blank))]
 fn is_blank(b: u8) -> bool
     ensures { result ≡ spec.is_blank b }
@@ -65,6 +73,7 @@ fn is_blank(b: u8) -> bool
     matches!(b, b' ' | b'\t' | b'\r')
 }
 
+#[inline(always)]
 #[tactic(auto, unfolding(crate::specs::Classes::is_space))]
 fn is_space(b: u8) -> bool
     ensures { result ≡ spec.is_space b }
@@ -72,6 +81,7 @@ fn is_space(b: u8) -> bool
     is_blank(b) || b == b'\n'
 }
 
+#[inline(always)]
 #[tactic(auto, unfolding(crate::specs::Classes::is_in_line))]
 fn is_in_line(b: u8) -> bool
     ensures { result ≡ spec.is_in_line b }
@@ -79,6 +89,7 @@ fn is_in_line(b: u8) -> bool
     b != b'\n'
 }
 
+#[inline(always)]
 #[tactic(auto, unfolding(crate::specs::Classes::is_u))]
 fn is_u(b: u8) -> bool
     ensures { result ≡ spec.is_u b }
@@ -86,6 +97,7 @@ fn is_u(b: u8) -> bool
     matches!(b, b'u' | b'U')
 }
 
+#[inline(always)]
 #[tactic(auto, unfolding(crate::specs::Classes::is_l))]
 fn is_l(b: u8) -> bool
     ensures { result ≡ spec.is_l b }
@@ -93,6 +105,7 @@ fn is_l(b: u8) -> bool
     matches!(b, b'l' | b'L')
 }
 
+#[inline(always)]
 #[tactic(auto, unfolding(crate::specs::Classes::is_plain))]
 fn is_plain(b: u8) -> bool
     ensures { result ≡ spec.is_plain b }
@@ -100,8 +113,17 @@ fn is_plain(b: u8) -> bool
     matches!(b, b' '..=b'~' | b'\t' | b'\r') && b != b'\\'
 }
 
+#[inline(always)]
+#[tactic(auto, unfolding(crate::specs::Classes::is_in_string))]
+fn is_in_string(b: u8) -> bool
+    ensures { result ≡ spec.is_in_string b }
+{
+    is_plain(b) && b != b'"'
+}
+
 impl Class {
     /// Whether the byte is of the class.
+    #[inline(always)]
     pub fn has(self, b: u8) -> bool
         ensures { result ≡ spec.is_in self b }
     {
@@ -117,6 +139,7 @@ impl Class {
             Class::U => is_u(b),
             Class::L => is_l(b),
             Class::Plain => is_plain(b),
+            Class::Str => is_in_string(b),
         }
     }
 }

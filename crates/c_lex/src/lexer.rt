@@ -4,11 +4,15 @@ ghost use Rattle.std.specs.Prelude.{◌≡◌, ◌++◌, ◌+◌, ◌<◌, ◌�
 ghost use Rattle.c_lex.specs.declared.token.Token as the;
 ghost use Rattle.cm_base.specs.declared.place.Place as the_place;
 ghost use Rattle.c_lex.specs.Tokens.{token_at, HasTokens, FirstFault};
-ghost use Rattle.c_lex.specs.Reading.{Step, Stuck, EndsAt, AreTokens, IfAt};
+ghost use Rattle.c_lex.specs.Classes.{is_space};
+ghost use Rattle.c_lex.specs.Spot.{after};
+ghost use Rattle.c_lex.specs.Reading.{Step, Stuck, EndsAt, AreTokens, IfAt, front, back};
 ghost use Rattle.c_lex.specs.Answer.{IsFault, GivesTokens, GivesFault};
 
+use crate::class::Class;
 use crate::fault::{Fault, PieceError};
 use crate::pieces::piece_at;
+use crate::runs::run;
 use crate::spot::Spot;
 use crate::token::{Kind, Token};
 use cm_base::{List, NoMemory, Place};
@@ -56,6 +60,18 @@ fn put(tokens: &mut List<Token>, unit: u32, spot: Spot, kind: Option<Kind>) -> R
     }
 }
 
+/// Where what is behind the blanks and line ends at the front stands, and that.
+#[tactic(auto, using(crate::proofs::RunLaws::runs))]
+fn skip(spot: Spot, text: &[u8]) -> (Spot, &[u8])
+    requires line { spot.line + length text.now < 2 ^ 32 }
+    requires col { spot.col + length text.now < 2 ^ 32 }
+    ensures spot { result.0 ≡ after spot (front is_space text.now) }
+    ensures rest { result.1.now ≡ back is_space text.now }
+{
+    let (spaces, rest) = run(Class::Space, text);
+    (spot.after(spaces), rest)
+}
+
 /// The tokens of a text that isn't too long.
 fn split(alloc: Global, unit: u32, text: &[u8]) -> Result<List<Token>, PieceError>
     requires { length text.now ≤ 1048576 }
@@ -63,13 +79,13 @@ fn split(alloc: Global, unit: u32, text: &[u8]) -> Result<List<Token>, PieceErro
     ensures err { IfErr result (IfAt (EndsAt text.now)) }
 {
     let mut tokens = List::new(alloc);
-    let mut spot = Spot::start();
-    let mut rest = text;
+    let (mut spot, mut rest) = skip(Spot::start(), text);
     while !rest.is_empty() {
         let (kind, after, behind) = step(alloc, spot, rest)?;
         put(&mut tokens, unit, spot, kind)?;
-        spot = after;
-        rest = behind;
+        let next = skip(after, behind);
+        spot = next.0;
+        rest = next.1;
     }
     Ok(tokens)
 }

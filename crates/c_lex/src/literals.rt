@@ -7,6 +7,7 @@ ghost use Rattle.c_lex.specs.Reading as spec;
 
 use crate::class::{Class, digit_value};
 use crate::fault::{Fault, Flaw, PieceError, fault_at};
+use crate::runs::run;
 use crate::token::Kind;
 use cm_base::{Bytes, List};
 use std::alloc::Global;
@@ -183,12 +184,14 @@ fn closed(text: &[u8]) -> Option<&[u8]>
 }
 
 /// The rest of a string, behind its first quote.
+#[tactic(auto, using(crate::proofs::Strings::strings))]
 pub fn string_at(alloc: Global, cut: usize, body: &[u8]) -> Result<(Bytes, &[u8]), PieceError>
     ensures { spec.Gives (λ x. (x.0, x.1.now)) result (spec.string_at cut (length body.now + 1) body.now) }
 {
-    let mut bytes = List::new(alloc);
-    let mut rest = body;
-    let most = body.len() + 1;
+    let (plain, more) = run(Class::Str, body);
+    let mut bytes = List::from_slice(alloc, plain)?;
+    let mut rest = more;
+    let most = more.len() + 1;
     for i in 0..most {
         if let Some(after) = closed(rest) {
             return Ok((bytes, after));

@@ -7,6 +7,7 @@ ghost use Rattle.c_lex.specs.Reading as spec;
 use crate::class::Class;
 
 /// How long the longest run of the class is.
+#[inline(always)]
 #[tactic(auto, using(crate::proofs::RunLaws::loops))]
 fn run_len(class: Class, text: &[u8]) -> usize
     ensures { result ≡ length (spec.front (is_in class) text.now) }
@@ -20,6 +21,7 @@ fn run_len(class: Class, text: &[u8]) -> usize
 }
 
 /// The longest run of the class, and what is behind it.
+#[inline(always)]
 #[tactic(auto, using(crate::proofs::RunLaws::runs))]
 pub fn run(class: Class, text: &[u8]) -> (&[u8], &[u8])
     ensures front { result.0.now ≡ spec.front (is_in class) text.now }

@@ -27,6 +27,7 @@ impl Spot {
         }
     }
 
+    #[inline(always)]
     #[tactic(auto, unfolding(crate::specs::Spot::past))]
     fn past(self, b: u8) -> Spot
         requires line { self.line + 1 < 2 ^ 32 }

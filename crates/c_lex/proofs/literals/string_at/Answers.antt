@@ -4,7 +4,7 @@ use Rattle.c_lex.proofs.literals.string_at.Goals as goal
 
 pub returns-in_err-byte : goal.returns-in_err-byte
 returns-in_err-byte c =
-    let p = err_from_is_err_and c.from_residual.result c.from_residual.ensures.1 in
+    let p = err_from_is_err_and c.from_residual-in_err-byte.result c.from_residual-in_err-byte.ensures.1 in
     rw (p.1, p.2) (string_fails c.in_err-byte.field-0.0 c.loop-i.bytes c.args.cut _ c.loop-i.i c.loop-i.rest.now _ c.loop-i-test.true c.in_default.ensures c.in_err-byte.ensures c.loop-i.invariant)
 
 pub returns-in-Some : goal.returns-in-Some
