@@ -1,6 +1,6 @@
 -- Where a part of a source begins: the place of its first token. The place of an operation in the tree is its operator's, so
 -- that of its first token is found in its first operand where the operator doesn't stand in front.
-use Rattle.std.specs.Prelude.{List, [], ◌∷◌, Option, Some, None, ⊤, tt}
+use Rattle.std.specs.Prelude.{List, [], ◌∷◌, Option, Some, None, ⊤}
 use Rattle.cm_base.specs.declared.place.Place.{Place}
 use Rattle.c_ast.specs.declared.expr.Expr.{Expr}
 use Rattle.c_ast.specs.declared.expr.Spec.{Spec}

@@ -35,23 +35,23 @@ pub enum Stmt {
     Block(Block),
     Empty(Place),
     Expr(Expr),
-    Return(Place, Option<Boxed<Expr>>),
+    Return(Place, Option<Expr>),
     Break(Place),
     Continue(Place),
     /// The test, what is done where it holds, and what stands after `else`.
-    If(Place, Boxed<Expr>, Boxed<Stmt>, Option<Boxed<Stmt>>),
-    While(Place, Boxed<Expr>, Boxed<Stmt>),
-    DoWhile(Place, Boxed<Stmt>, Boxed<Expr>),
+    If(Place, Expr, Boxed<Stmt>, Option<Boxed<Stmt>>),
+    While(Place, Expr, Boxed<Stmt>),
+    DoWhile(Place, Boxed<Stmt>, Expr),
     /// What stands between the parentheses, and the body.
-    For(Place, Boxed<ForHead>, Boxed<Stmt>),
-    Switch(Place, Boxed<Expr>, List<Part>),
+    For(Place, ForHead, Boxed<Stmt>),
+    Switch(Place, Expr, List<Part>),
 }
 
 /// What stands between the parentheses of a `for`: the first part, the test, and what is done
 /// between two turns.
 #[derive(Drop)]
 pub struct ForHead {
-    pub first: First,
+    pub first: Boxed<First>,
     pub test: Option<Boxed<Expr>>,
     pub step: Option<Boxed<Expr>>,
 }
