@@ -35,16 +35,16 @@ pub enum Stmt {
     Block(Block),
     Empty(Place),
     Expr(Expr),
-    Return(Place, Option<Expr>),
+    Return(Place, Option<Boxed<Expr>>),
     Break(Place),
     Continue(Place),
     /// The test, what is done where it holds, and what stands after `else`.
-    If(Place, Expr, Boxed<Stmt>, Option<Boxed<Stmt>>),
-    While(Place, Expr, Boxed<Stmt>),
-    DoWhile(Place, Boxed<Stmt>, Expr),
+    If(Place, Boxed<Expr>, Boxed<Stmt>, Option<Boxed<Stmt>>),
+    While(Place, Boxed<Expr>, Boxed<Stmt>),
+    DoWhile(Place, Boxed<Stmt>, Boxed<Expr>),
     /// What stands between the parentheses, and the body.
     For(Place, ForHead, Boxed<Stmt>),
-    Switch(Place, Expr, List<Part>),
+    Switch(Place, Boxed<Expr>, List<Part>),
 }
 
 /// What stands between the parentheses of a `for`: the first part, the test, and what is done
