@@ -1,10 +1,11 @@
 -- Names and words.
-use Rattle.std.proofs.Common.{◌≡◌, ℕ, ◌<◌, ◌≤◌, Bool, true, false, cond, ◌||◌, ltb, List, [], ◌∷◌, length, Option, Some, None, Ok, Err, refl, sym, ap, ◌∙◌}
+use Rattle.std.proofs.Common.{◌≡◌, ℕ, ◌<◌, ◌≤◌, Bool, true, false, cond, ◌||◌, ltb, List, [], ◌∷◌, length, Option, Some, None, Ok, Err, refl, sym, ap, subst, ◌∙◌}
 use Rattle.std.specs.Prelude.{find}
 use Rattle.std.specs.List.{list_any}
-use Rattle.std.proofs.lemmas.Bool.{le-ltb, lt-ltb}
+use Rattle.std.proofs.lemmas.Bool.{le-leb, le-ltb, lt-ltb}
 use Rattle.std.proofs.lemmas.Bool.Decides.{Decides-eqb}
 use Rattle.std.proofs.lemmas.Slice.Eq.{slice_eq-Decides}
+use Rattle.c_names.specs.Name.{is_name}
 use Rattle.c_lex.specs.declared.token.Kind.TheVariants as kind
 use Rattle.c_lex.specs.declared.token.Keyword.{Keyword}
 use Rattle.c_lex.specs.declared.token.Keyword.TheVariants as word_is
@@ -14,7 +15,7 @@ use Rattle.c_lex.specs.Classes.{is_letter, is_name_byte, begins, Run}
 use Rattle.c_lex.specs.Spelling.{word_text, keywords, left_out_text, left_out_words, IsNoWord}
 use Rattle.c_lex.specs.Tokens.{Spelled, name, word, Faulty, long_name, left_out, E01, E06}
 use Rattle.c_lex.specs.Reading.{fault, front, back, same_text, word_of, is_left_out, named, name_at}
-use Rattle.c_lex.proofs.RunLaws.{run_is, run_front, run_back}
+use Rattle.c_lex.proofs.RunLaws.{front-cons, every_front, run_is, run_front, run_back}
 use Rattle.c_lex.proofs.Right.{Right, done, faults, either, ltb_no, ltb_yes}
 
 -- ---- the tables
@@ -168,3 +169,20 @@ read_left_out text s rest w r e =
 
 pub read_long_name : (text s rest : List ℕ) → Run is_name_byte s rest text → IsNoWord s → 255 < length s → name_at text ≡ Err (fault E01 text)
 read_long_name text s rest r n l = read_run text s rest r ∙ rw (none_of s n, not_left s n, lt-ltb 255 (length s) l) refl
+
+-- ---- what is kept
+
+letter_goes_on : (b : ℕ) → is_letter b ≡ true → is_name_byte b ≡ true
+unfolding is_name_byte
+letter_goes_on b e = rw e refl
+
+-- the longest run of a name's bytes, where it begins with a letter and isn't too long, is a name
+pub front_is_name : (text : List ℕ) → begins is_letter text ≡ true → length (front is_name_byte text) ≤ 255 → is_name (front is_name_byte text) ≡ true
+unfolding is_name
+front_is_name [] e l = absurd cc
+front_is_name (b ∷ bs) e l =
+    let c = front-cons is_name_byte b bs (letter_goes_on b e) in
+    rw c (rw (e, every_front is_name_byte bs, le-leb _ 255 (subst (λ (s : List ℕ). length s ≤ 255) c l)) refl)
+
+-- for the tactics
+pub ruleset names = (front_is_name)

@@ -1,10 +1,11 @@
 -- The longest run of a class.
 use Rattle.std.proofs.Common.{◌≡◌, ℕ, zero, suc, ◌+◌, ◌≤◌, ◌<◌, Bool, true, false, cond, ◌&&◌, List, [], ◌∷◌, ◌++◌, length, take, drop, get_or, refl, sym, ap, ◌∙◌, arith}
 use Rattle.std.proofs.lemmas.List.{drop_more, take_at, drop_at, length-append}
-use Rattle.c_lex.specs.Classes.{begins, every, Run}
+use Rattle.std.specs.List.{list_all}
+use Rattle.c_lex.specs.Classes.{begins, Run}
 use Rattle.c_lex.specs.Reading.{front, back}
 
-front-cons : (p : ℕ → Bool) (b : ℕ) (bs : List ℕ) → p b ≡ true → front p (b ∷ bs) ≡ b ∷ front p bs
+pub front-cons : (p : ℕ → Bool) (b : ℕ) (bs : List ℕ) → p b ≡ true → front p (b ∷ bs) ≡ b ∷ front p bs
 front-cons p b bs e = rw e refl
 
 front-stop : (p : ℕ → Bool) (b : ℕ) (bs : List ℕ) → p b ≡ false → front p (b ∷ bs) ≡ []
@@ -46,11 +47,11 @@ pub front_back : (p : ℕ → Bool) (t : List ℕ) → front p t ++ back p t ≡
 front_back p [] = refl
 front_back p (b ∷ t) = join_step p b t (p b) (front_back p t)
 
-every_step : (p : ℕ → Bool) (b : ℕ) (t : List ℕ) (c : Bool) → p b ≡ c → every p (front p t) ≡ true → every p (cond c (b ∷ front p t) []) ≡ true
+every_step : (p : ℕ → Bool) (b : ℕ) (t : List ℕ) (c : Bool) → p b ≡ c → list_all p (front p t) ≡ true → list_all p (cond c (b ∷ front p t) []) ≡ true
 every_step p b t true e h = rw (e, h) refl
 every_step p b t false e h = refl
 
-every_front : (p : ℕ → Bool) (t : List ℕ) → every p (front p t) ≡ true
+pub every_front : (p : ℕ → Bool) (t : List ℕ) → list_all p (front p t) ≡ true
 every_front p [] = refl
 every_front p (b ∷ t) = every_step p b t (p b) refl (every_front p t)
 
@@ -70,15 +71,15 @@ both : (a b : Bool) → (a && b) ≡ true → (a ≡ true) × (b ≡ true)
 both true b e = (refl, e)
 both false b e = absurd cc
 
-front_of : (p : ℕ → Bool) (s rest : List ℕ) → every p s ≡ true → begins p rest ≡ false → front p (s ++ rest) ≡ s
+front_of : (p : ℕ → Bool) (s rest : List ℕ) → list_all p s ≡ true → begins p rest ≡ false → front p (s ++ rest) ≡ s
 front_of p [] [] e h = refl
 front_of p [] (b ∷ rest) e h = front-stop p b rest h
-front_of p (b ∷ s) rest e h = let e' = both (p b) (every p s) e in front-cons p b (s ++ rest) e'.0 ∙ ap (λ (x : List ℕ). b ∷ x) (front_of p s rest e'.1 h)
+front_of p (b ∷ s) rest e h = let e' = both (p b) (list_all p s) e in front-cons p b (s ++ rest) e'.0 ∙ ap (λ (x : List ℕ). b ∷ x) (front_of p s rest e'.1 h)
 
-back_of : (p : ℕ → Bool) (s rest : List ℕ) → every p s ≡ true → begins p rest ≡ false → back p (s ++ rest) ≡ rest
+back_of : (p : ℕ → Bool) (s rest : List ℕ) → list_all p s ≡ true → begins p rest ≡ false → back p (s ++ rest) ≡ rest
 back_of p [] [] e h = refl
 back_of p [] (b ∷ rest) e h = back-stop p b rest h
-back_of p (b ∷ s) rest e h = let e' = both (p b) (every p s) e in back-cons p b (s ++ rest) e'.0 ∙ back_of p s rest e'.1 h
+back_of p (b ∷ s) rest e h = let e' = both (p b) (list_all p s) e in back-cons p b (s ++ rest) e'.0 ∙ back_of p s rest e'.1 h
 
 -- a run is what is read
 pub run_front : {p : ℕ → Bool} {s rest t : List ℕ} → Run p s rest t → front p t ≡ s

@@ -1,26 +1,15 @@
 -- Classes of bytes, and runs of them (C11 5.2.1, 6.4).
 use Rattle.std.specs.Prelude.{◌≡◌, ℕ, ◌-◌, Bool, true, false, not, ◌&&◌, ◌||◌, nat_le, ◌==◌, List, [], ◌∷◌, ◌++◌, if◌then◌else◌}
+use Rattle.std.specs.List.{list_all}
+pub use Rattle.c_names.specs.Name.{within, is_letter, is_digit, is_name_byte}
 use Rattle.c_lex.specs.declared.class.Class.{Class}
 use Rattle.c_lex.specs.declared.class.Class.TheVariants as class
-
-abbrev pub within : ℕ → ℕ → ℕ → Bool
-within low high b = nat_le low b && nat_le b high
-
--- A to Z, a to z and _
-unfoldable pub is_letter : ℕ → Bool
-is_letter b = within 65 90 b || within 97 122 b || b == 95
-
-unfoldable pub is_digit : ℕ → Bool
-is_digit b = within 48 57 b
 
 unfoldable pub is_octal : ℕ → Bool
 is_octal b = within 48 55 b
 
 unfoldable pub is_hex : ℕ → Bool
 is_hex b = within 48 57 b || within 65 70 b || within 97 102 b
-
-unfoldable pub is_name_byte : ℕ → Bool
-is_name_byte b = is_letter b || is_digit b
 
 -- a space, a tab or a carriage return
 unfoldable pub is_blank : ℕ → Bool
@@ -80,12 +69,8 @@ abbrev pub begins_with : ℕ → List ℕ → Bool
 begins_with q [] = false
 begins_with q (b ∷ _) = b == q
 
-abbrev pub every : (ℕ → Bool) → List ℕ → Bool
-every p [] = true
-every p (b ∷ bs) = p b && every p bs
-
 -- The text is the run, of bytes of the class alone, and then the rest, which begins with no such byte.
 pub record Run (p : ℕ → Bool) (run rest text : List ℕ) : Type 0 where
   pub parts : text ≡ run ++ rest
-  pub each : every p run ≡ true
+  pub each : list_all p run ≡ true
   pub ends : begins p rest ≡ false

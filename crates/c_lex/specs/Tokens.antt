@@ -1,5 +1,6 @@
 -- The tokens of a text, and its first fault (C11 5.1.1.2 phase 3, 6.4, with the profile of this language).
 use Rattle.std.specs.Prelude.{◌≡◌, ◌≢◌, ℕ, ◌-◌, ◌<◌, ◌≤◌, ◌^◌, Bool, true, false, ◌&&◌, ◌||◌, nat_le, ◌==◌, List, [], ◌∷◌, ◌++◌, length, take, codes, Option, Some, None}
+use Rattle.std.specs.List.{list_all}
 use Rattle.cm_base.specs.declared.place.Place.{Place}
 use Rattle.c_lex.specs.declared.spot.Spot.{Spot}
 use Rattle.c_lex.specs.declared.token.Kind.{Kind}
@@ -9,7 +10,7 @@ use Rattle.c_lex.specs.declared.token.Punct.{Punct}
 use Rattle.c_lex.specs.declared.token.Header.{Header}
 use Rattle.c_lex.specs.declared.token.Token.{Token}
 use Rattle.c_lex.specs.declared.words.LeftOut.{LeftOut}
-use Rattle.c_lex.specs.Classes.{is_letter, is_name_byte, is_blank, is_space, is_in_line, is_stray, begins, begins_with, every, Run}
+use Rattle.c_lex.specs.Classes.{is_letter, is_name_byte, is_blank, is_space, is_in_line, is_stray, begins, begins_with, Run}
 use Rattle.c_lex.specs.Spot.{start, after, place_of}
 use Rattle.c_lex.specs.Spelling.{word_text, left_out_text, IsNoWord, mark_text, IsLongest, header_text, Digits, value_of, suffix_of, begins_long_long, Item, Items, IsCut}
 
@@ -28,10 +29,10 @@ pub record Include (text : List ℕ) (h : Header) (rest : List ℕ) : Type 0 whe
   pub behind : List ℕ
   pub end : List ℕ
   pub parts : text ≡ 35 ∷ (before ++ (codes "include" ++ (between ++ (header_text h ++ rest))))
-  pub before_blank : every is_blank before ≡ true
-  pub between_blank : every is_blank between ≡ true
+  pub before_blank : list_all is_blank before ≡ true
+  pub between_blank : list_all is_blank between ≡ true
   pub rest_parts : rest ≡ behind ++ end
-  pub behind_blank : every is_blank behind ≡ true
+  pub behind_blank : list_all is_blank behind ≡ true
   pub line_ends : ends_line end ≡ true
 
 -- ---- pieces

@@ -1,6 +1,8 @@
 //! The piece at the front of a text: a blank, a line end, a comment, or a token.
 
-ghost use Rattle.std.specs.Prelude.{◌≡◌, ◌+◌, ◌<◌, ◌^◌, length};
+ghost use Rattle.std.specs.Prelude.{◌≡◌, ◌∷◌, ◌+◌, ◌<◌, ◌^◌, length, true};
+ghost use Rattle.c_names.specs.Name.{is_letter};
+ghost use Rattle.c_lex.specs.Classes.{begins};
 ghost use Rattle.c_lex.specs.Reading as spec;
 
 use crate::class::Class;
@@ -12,15 +14,17 @@ use crate::numbers::number_at;
 use crate::runs::run;
 use crate::token::Kind;
 use crate::words::{is_left_out, word_of};
+use c_names::Ident;
 use cm_base::List;
 use std::alloc::Global;
 
 /// A token, if the piece is one, and what is behind it.
 pub type Piece<'a> = Result<(Option<Kind>, &'a [u8]), PieceError>;
 
-/// The name or word at the front.
-#[tactic(auto, unfolding(crate::specs::Reading::name_at))]
+/// The name or word at the front, which begins with a letter.
+#[tactic(auto, unfolding(crate::specs::Reading::name_at), using(crate::proofs::NameLaws::names))]
 fn name_at(alloc: Global, text: &[u8]) -> Result<(Kind, &[u8]), PieceError>
+    requires { begins is_letter text.now ≡ true }
     ensures { spec.Gives (λ x. (x.0, x.1.now)) result (spec.name_at text.now) }
 {
     let (name, rest) = run(Class::Name, text);
@@ -33,7 +37,8 @@ fn name_at(alloc: Global, text: &[u8]) -> Result<(Kind, &[u8]), PieceError>
     if name.len() > 255 {
         return Err(fault_at(1, text));
     }
-    Ok((Kind::Name(List::from_slice(alloc, name)?), rest))
+    let name = Ident::new(List::from_slice(alloc, name)?);
+    Ok((Kind::Name(name), rest))
 }
 
 #[tactic(auto, unfolding(crate::specs::Reading::other_at))]
@@ -73,7 +78,8 @@ fn token_at<'a>(
     b: u8,
     body: &'a [u8],
 ) -> Result<(Kind, &'a [u8]), PieceError>
-    requires { length body.now + 1 < 2 ^ 64 }
+    requires size { length body.now + 1 < 2 ^ 64 }
+    requires front { text.now ≡ b ∷ body.now }
     ensures { spec.Gives (λ x. (x.0, x.1.now)) result (spec.token_at fresh text.now b body.now) }
 {
     if Class::Letter.has(b) {

@@ -1,6 +1,7 @@
 //! The kinds of tokens.
 
-use cm_base::{Bytes, Place, Text};
+use c_names::Ident;
+use cm_base::{Bytes, Place};
 
 /// A word of the language.
 #[derive(Clone, Copy, Debug, PartialEq, Eq)]
@@ -98,7 +99,7 @@ pub enum Header {
 /// What a token is, with its value.
 #[derive(Debug, Drop)]
 pub enum Kind {
-    Name(Text),
+    Name(Ident),
     Word(Keyword),
     /// `unsigned`: the type is unsigned or unsigned long. `long`: the suffix `l` stands.
     Number {
