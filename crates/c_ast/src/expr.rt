@@ -1,13 +1,14 @@
 //! Expressions, and the types that they name.
 
-use cm_base::{Bytes, List, Place, Text};
+use c_names::Ident;
+use cm_base::{Bytes, List, Place};
 use sqlite_items::Boxed;
 
 /// A name where it stands.
 #[derive(Drop)]
 pub struct Name {
     pub place: Place,
-    pub text: Text,
+    pub text: Ident,
 }
 
 /// An operator between two operands.

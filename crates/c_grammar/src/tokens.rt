@@ -232,7 +232,7 @@ pub fn take_name<'a>(alloc: Global, names: &TypeNames, ts: &'a [Token]) -> Read<
             Ok((
                 Name {
                     place: ts[0].place,
-                    text: text.try_clone(alloc)?,
+                    text: text.copy(alloc)?,
                 },
                 &ts[1..],
             ))
@@ -256,7 +256,7 @@ pub fn take_type<'a>(alloc: Global, names: &TypeNames, ts: &'a [Token]) -> Read<
             Ok((
                 Name {
                     place: ts[0].place,
-                    text: text.try_clone(alloc)?,
+                    text: text.copy(alloc)?,
                 },
                 &ts[1..],
             ))
