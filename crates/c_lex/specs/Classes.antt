@@ -1,7 +1,8 @@
 -- Classes of bytes, and runs of them (C11 5.2.1, 6.4).
 use Rattle.std.specs.Prelude.{◌≡◌, ℕ, ◌-◌, Bool, true, false, not, ◌&&◌, ◌||◌, nat_le, ◌==◌, List, [], ◌∷◌, ◌++◌, if◌then◌else◌}
 use Rattle.std.specs.List.{list_all}
-pub use Rattle.c_names.specs.Name.{within, is_letter, is_digit, is_name_byte}
+pub use Rattle.c_names.specs.Name.{within}
+unfoldable pub use Rattle.c_names.specs.Name.{is_letter, is_digit, is_name_byte}
 use Rattle.c_lex.specs.declared.class.Class.{Class}
 use Rattle.c_lex.specs.declared.class.Class.TheVariants as class
 
