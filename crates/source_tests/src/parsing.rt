@@ -151,7 +151,7 @@ fn expressions(rt: HostRuntime) -> Result<(), Fail> {
 /// The first statement of the first function.
 fn first_stmt(unit: &Unit) -> Option<&Stmt> {
     match unit.parts.get(0) {
-        Some(External::Function(function)) => match function.body.items.get(0) {
+        Some(External::Function(function)) => match function.get().body.items.get(0) {
             Some(Item::Stmt(stmt)) => Some(stmt),
             _ => None,
         },
