@@ -1,14 +1,14 @@
 //! Expressions, and the types that they name.
 
-use cm_base::{Bytes, List, Place, Text};
+use c_names::Ident;
+use cm_base::{Bytes, List, Place};
 use sqlite_items::Boxed;
 
-/// A name where it stands. The text of a tag that isn't there is empty, and its place is that of
-/// `struct` or `enum`.
+/// A name where it stands.
 #[derive(Drop)]
 pub struct Name {
     pub place: Place,
-    pub text: Text,
+    pub text: Ident,
 }
 
 /// An operator between two operands.
@@ -77,6 +77,15 @@ pub enum AssignOp {
     Xor,
     /// `|=`
     Or,
+}
+
+/// The type of a number's constant.
+#[derive(Clone, Copy, Debug, PartialEq, Eq)]
+pub struct NumberType {
+    /// The type is unsigned or unsigned long.
+    pub unsigned: bool,
+    /// The type is long or unsigned long.
+    pub long: bool,
 }
 
 /// An operator before its operand.
@@ -152,9 +161,7 @@ pub enum Star {
 #[derive(Drop)]
 pub enum Expr {
     Name(Name),
-    /// A number's value; whether its type is unsigned or unsigned long; whether it is long or
-    /// unsigned long.
-    Number(Place, u32, bool, bool),
+    Number(Place, u32, NumberType),
     Char(Place, u8),
     Str(Place, Bytes),
     /// `(` expr `)`
@@ -165,15 +172,15 @@ pub enum Expr {
     Step(Place, StepOp, Boxed<Expr>),
     Unary(Place, UnOp, Boxed<Expr>),
     SizeofExpr(Place, Boxed<Expr>),
-    SizeofType(Place, TypeName),
-    Cast(Place, TypeName, Boxed<Expr>),
+    SizeofType(Place, Boxed<TypeName>),
+    Cast(Place, Boxed<TypeName>, Boxed<Expr>),
     /// Operands joined by operators of one level, from left to right; at least one operator.
     Binary(Boxed<Expr>, List<Link>),
     /// `a ? b : c`
     Choice(Place, Boxed<Expr>, Boxed<Expr>, Boxed<Expr>),
     Assign(Place, AssignOp, Boxed<Expr>, Boxed<Expr>),
     /// The first expression, and those after the commas; at least one.
-    Comma(Boxed<Expr>, List<Expr>),
+    Comma(Boxed<Expr>, List<Next>),
 }
 
 /// An operator and its right operand.
@@ -185,12 +192,20 @@ pub struct Link {
     pub operand: Expr,
 }
 
+/// A comma and the expression after it.
+#[cycle(syntax)]
+#[derive(Drop)]
+pub struct Next {
+    pub place: Place,
+    pub value: Expr,
+}
+
 /// What is done to an expression by what stands after it.
 #[cycle(syntax)]
 #[derive(Drop)]
 pub enum Access {
     /// `[` expr `]`
-    Index(Place, Expr),
+    Index(Place, Boxed<Expr>),
     /// `(` arguments `)`
     Call(Place, List<Expr>),
     /// `.` NAME
@@ -216,17 +231,17 @@ pub enum Spec {
     Word(Place, SpecWord),
     /// A name that a typedef declares.
     TypeName(Name),
-    Struct(StructSpec),
-    Enum(EnumSpec),
+    Struct(Boxed<StructSpec>),
+    Enum(Boxed<EnumSpec>),
     Attr(Attr),
 }
 
-/// A `struct` with its place and tag.
+/// A `struct` with its place and its tag, which a body may lack.
 #[cycle(syntax)]
 #[derive(Drop)]
 pub enum StructSpec {
     /// `struct` [ NAME ] `{` member .. `}`
-    Body(Place, Name, List<Member>),
+    Body(Place, Option<Name>, List<Member>),
     /// `struct` NAME
     Tag(Place, Name),
 }
@@ -239,12 +254,12 @@ pub enum Member {
     Declares(List<Spec>, List<Declarator>),
 }
 
-/// An `enum` with its place and tag.
+/// An `enum` with its place and its tag, which a body may lack.
 #[cycle(syntax)]
 #[derive(Drop)]
 pub enum EnumSpec {
     /// `enum` [ NAME ] `{` enumerator `,` .. `}`
-    Body(Place, Name, List<Enumerator>),
+    Body(Place, Option<Name>, List<Enumerator>),
     /// `enum` NAME
     Tag(Place, Name),
 }
@@ -254,7 +269,7 @@ pub enum EnumSpec {
 #[derive(Drop)]
 pub struct Enumerator {
     pub name: Name,
-    pub value: Option<Expr>,
+    pub value: Option<Boxed<Expr>>,
 }
 
 /// A declarator: the name that it declares, and what stands around that name.
@@ -270,7 +285,7 @@ pub struct Declarator {
 #[derive(Drop)]
 pub enum Suffix {
     /// `[` [ length ] `]`
-    Array(Place, Option<Expr>),
+    Array(Place, Option<Boxed<Expr>>),
     /// `(` [ parameters ] `)`
     Params(Place, Params),
 }

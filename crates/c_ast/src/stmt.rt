@@ -18,7 +18,7 @@ pub enum Initial {
 pub struct Init {
     pub declarator: Declarator,
     pub attrs: List<Attr>,
-    pub value: Option<Initial>,
+    pub value: Option<Boxed<Initial>>,
 }
 
 /// A declaration.
@@ -35,23 +35,32 @@ pub enum Stmt {
     Block(Block),
     Empty(Place),
     Expr(Expr),
-    Return(Place, Option<Expr>),
+    Return(Place, Option<Boxed<Expr>>),
     Break(Place),
     Continue(Place),
     /// The test, what is done where it holds, and what stands after `else`.
-    If(Place, Expr, Boxed<Stmt>, Option<Boxed<Stmt>>),
-    While(Place, Expr, Boxed<Stmt>),
-    DoWhile(Place, Boxed<Stmt>, Expr),
-    /// The first part, the test, what is done between two turns, and the body.
-    For(Place, First, Option<Expr>, Option<Expr>, Boxed<Stmt>),
-    Switch(Place, Expr, List<Part>),
+    If(Place, Boxed<Expr>, Boxed<Stmt>, Option<Boxed<Stmt>>),
+    While(Place, Boxed<Expr>, Boxed<Stmt>),
+    DoWhile(Place, Boxed<Stmt>, Boxed<Expr>),
+    /// What stands between the parentheses, and the body.
+    For(Place, ForHead, Boxed<Stmt>),
+    Switch(Place, Boxed<Expr>, List<Part>),
+}
+
+/// What stands between the parentheses of a `for`: the first part, the test, and what is done
+/// between two turns.
+#[derive(Drop)]
+pub struct ForHead {
+    pub first: Boxed<First>,
+    pub test: Option<Boxed<Expr>>,
+    pub step: Option<Boxed<Expr>>,
 }
 
 /// The first part of a `for`.
 #[derive(Drop)]
 pub enum First {
     Decl(Decl),
-    Expr(Option<Expr>),
+    Expr(Option<Boxed<Expr>>),
 }
 
 /// `{` declarations and statements `}`
@@ -83,7 +92,7 @@ pub enum Part {
 #[derive(Drop)]
 pub enum Label {
     /// `case` value `:`
-    Case(Place, Expr),
+    Case(Place, Boxed<Expr>),
     /// `default` `:`
     Default(Place),
 }
@@ -102,7 +111,7 @@ pub struct Function {
 pub enum External {
     Include(Place, Header),
     Decl(Decl),
-    Function(Function),
+    Function(Boxed<Function>),
 }
 
 /// A source.

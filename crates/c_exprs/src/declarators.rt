@@ -10,12 +10,13 @@ use c_grammar::begins::{
     begins_declarator, begins_expr, begins_spec, begins_suffix, opens_group, void_params,
 };
 use c_grammar::either::Either;
+use c_grammar::names::TypeNames;
 use c_grammar::tokens::{Read, Sign, expect, next_is, next_is_name, take_name};
 use c_lex::token::{Keyword, Punct, Token};
 use c_nodes::attrs::stars;
 use c_nodes::levels::{deep_if, no_either, no_nameless, opens_name};
-use c_nodes::nodes::{abstract_around, alone, around, either_around, opened, param_of};
-use cm_base::{List, Text};
+use c_nodes::nodes::{abstract_around, alone, around, either_around, param_of};
+use cm_base::List;
 use sqlite_items::Boxed;
 use std::alloc::Global;
 
@@ -24,7 +25,7 @@ use std::alloc::Global;
 #[tactic(auto, using(c_nodes::proofs::LevelLaws::declarator_rules), unfolding(c_grammar::specs::Reading::read_declarator))]
 pub fn declarator<'a>(
     alloc: Global,
-    names: &[Text],
+    names: &TypeNames,
     left: usize,
     ts: &'a [Token],
 ) -> Read<'a, Declarator>
@@ -46,7 +47,7 @@ pub fn declarator<'a>(
 #[tactic(auto, unfolding(c_grammar::specs::Reading::read_plain_declarator))]
 fn plain_declarator<'a>(
     alloc: Global,
-    names: &[Text],
+    names: &TypeNames,
     left: usize,
     before: List<Star>,
     ts: &'a [Token],
@@ -69,7 +70,7 @@ fn plain_declarator<'a>(
 #[tactic(auto, unfolding(c_grammar::specs::Reading::read_group_declarator))]
 fn group_declarator<'a>(
     alloc: Global,
-    names: &[Text],
+    names: &TypeNames,
     left: usize,
     before: List<Star>,
     ts: &'a [Token],
@@ -88,7 +89,7 @@ fn group_declarator<'a>(
 #[tactic(auto, unfolding(c_grammar::specs::Reading::read_suffix_item))]
 fn suffix_item<'a>(
     alloc: Global,
-    names: &[Text],
+    names: &TypeNames,
     left: usize,
     so_far: List<Suffix>,
     ts: &'a [Token],
@@ -106,7 +107,7 @@ fn suffix_item<'a>(
 #[tactic(auto, using(c_nodes::proofs::LevelLaws::repeat_rules), unfolding(c_grammar::specs::Reading::read_suffixes))]
 fn suffixes<'a>(
     alloc: Global,
-    names: &[Text],
+    names: &TypeNames,
     left: usize,
     so_far: List<Suffix>,
     ts: &'a [Token],
@@ -129,7 +130,7 @@ fn suffixes<'a>(
 /// suffix = "[" [ cond ] "]" | "(" [ params ] ")"
 #[cycle(syntax)]
 #[tactic(auto, unfolding(c_grammar::specs::Reading::read_suffix))]
-fn suffix<'a>(alloc: Global, names: &[Text], left: usize, ts: &'a [Token]) -> Read<'a, Suffix>
+fn suffix<'a>(alloc: Global, names: &TypeNames, left: usize, ts: &'a [Token]) -> Read<'a, Suffix>
     ensures { Gives (λ x. (x.0, x.1.now)) result (spec.read_suffix names.now (spec.levels names.now left) ts.now) }
 {
     if next_is(ts, Sign::Mark(Punct::BracketOpen)) {
@@ -141,13 +142,13 @@ fn suffix<'a>(alloc: Global, names: &[Text], left: usize, ts: &'a [Token]) -> Re
 /// "[" [ cond ] "]"
 #[cycle(syntax)]
 #[tactic(auto, unfolding(c_grammar::specs::Reading::read_array_suffix))]
-fn array_suffix<'a>(alloc: Global, names: &[Text], left: usize, ts: &'a [Token]) -> Read<'a, Suffix>
+fn array_suffix<'a>(alloc: Global, names: &TypeNames, left: usize, ts: &'a [Token]) -> Read<'a, Suffix>
     ensures { Gives (λ x. (x.0, x.1.now)) result (spec.read_array_suffix names.now (spec.levels names.now left) ts.now) }
 {
     let (place, rest) = expect(ts, Sign::Mark(Punct::BracketOpen))?;
     let (length, rest) = opt_cond(alloc, names, left, rest)?;
     let (_close, rest) = expect(rest, Sign::Mark(Punct::BracketClose))?;
-    Ok((Suffix::Array(place, opened(length)), rest))
+    Ok((Suffix::Array(place, length), rest))
 }
 
 /// [ cond ]
@@ -155,7 +156,7 @@ fn array_suffix<'a>(alloc: Global, names: &[Text], left: usize, ts: &'a [Token])
 #[tactic(auto, unfolding(c_grammar::specs::Reading::read_opt_cond))]
 fn opt_cond<'a>(
     alloc: Global,
-    names: &[Text],
+    names: &TypeNames,
     left: usize,
     ts: &'a [Token],
 ) -> Read<'a, Option<Boxed<Expr>>>
@@ -173,7 +174,7 @@ fn opt_cond<'a>(
 #[tactic(auto, unfolding(c_grammar::specs::Reading::read_params_suffix))]
 fn params_suffix<'a>(
     alloc: Global,
-    names: &[Text],
+    names: &TypeNames,
     left: usize,
     ts: &'a [Token],
 ) -> Read<'a, Suffix>
@@ -188,7 +189,7 @@ fn params_suffix<'a>(
 /// [ params ], where params = "void" | param { "," param }
 #[cycle(syntax)]
 #[tactic(auto, unfolding(c_grammar::specs::Reading::read_params))]
-fn params<'a>(alloc: Global, names: &[Text], left: usize, ts: &'a [Token]) -> Read<'a, Params>
+fn params<'a>(alloc: Global, names: &TypeNames, left: usize, ts: &'a [Token]) -> Read<'a, Params>
     ensures { Gives (λ x. (x.0, x.1.now)) result (spec.read_params names.now (spec.levels names.now left) ts.now) }
 {
     if void_params(ts) {
@@ -204,7 +205,7 @@ fn params<'a>(alloc: Global, names: &[Text], left: usize, ts: &'a [Token]) -> Re
 /// param { "," param }
 #[cycle(syntax)]
 #[tactic(auto, unfolding(c_grammar::specs::Reading::read_some_params))]
-fn some_params<'a>(alloc: Global, names: &[Text], left: usize, ts: &'a [Token]) -> Read<'a, Params>
+fn some_params<'a>(alloc: Global, names: &TypeNames, left: usize, ts: &'a [Token]) -> Read<'a, Params>
     ensures { Gives (λ x. (x.0, x.1.now)) result (spec.read_some_params names.now (spec.levels names.now left) ts.now) }
 {
     let (first, rest) = param(alloc, names, left, ts)?;
@@ -217,7 +218,7 @@ fn some_params<'a>(alloc: Global, names: &[Text], left: usize, ts: &'a [Token]) 
 #[tactic(auto, unfolding(c_grammar::specs::Reading::read_param_item))]
 fn param_item<'a>(
     alloc: Global,
-    names: &[Text],
+    names: &TypeNames,
     left: usize,
     so_far: List<Param>,
     ts: &'a [Token],
@@ -236,7 +237,7 @@ fn param_item<'a>(
 #[tactic(auto, using(c_nodes::proofs::LevelLaws::repeat_rules), unfolding(c_grammar::specs::Reading::read_more_params))]
 fn more_params<'a>(
     alloc: Global,
-    names: &[Text],
+    names: &TypeNames,
     left: usize,
     so_far: List<Param>,
     ts: &'a [Token],
@@ -259,7 +260,7 @@ fn more_params<'a>(
 /// param = specs ( declarator | abstract )
 #[cycle(syntax)]
 #[tactic(auto, unfolding(c_grammar::specs::Reading::read_param))]
-fn param<'a>(alloc: Global, names: &[Text], left: usize, ts: &'a [Token]) -> Read<'a, Param>
+fn param<'a>(alloc: Global, names: &TypeNames, left: usize, ts: &'a [Token]) -> Read<'a, Param>
     ensures { Gives (λ x. (x.0, x.1.now)) result (spec.read_param names.now (spec.levels names.now left) ts.now) }
 {
     let (specs, rest) = specs(alloc, names, left, ts)?;
@@ -270,7 +271,7 @@ fn param<'a>(alloc: Global, names: &[Text], left: usize, ts: &'a [Token]) -> Rea
 /// declarator | abstract
 #[cycle(syntax)]
 #[tactic(auto, using(c_nodes::proofs::LevelLaws::either_rules), unfolding(c_grammar::specs::Reading::read_either))]
-fn either<'a>(alloc: Global, names: &[Text], left: usize, ts: &'a [Token]) -> Read<'a, Either>
+fn either<'a>(alloc: Global, names: &TypeNames, left: usize, ts: &'a [Token]) -> Read<'a, Either>
     ensures { Gives (λ x. (x.0, x.1.now)) result ((spec.levels names.now left).either ts.now) }
 {
     if left == 0 {
@@ -286,7 +287,7 @@ fn either<'a>(alloc: Global, names: &[Text], left: usize, ts: &'a [Token]) -> Re
 #[tactic(auto, unfolding(c_grammar::specs::Reading::read_after_stars))]
 fn after_stars<'a>(
     alloc: Global,
-    names: &[Text],
+    names: &TypeNames,
     left: usize,
     before: List<Star>,
     ts: &'a [Token],
@@ -310,7 +311,7 @@ fn after_stars<'a>(
 #[tactic(auto, unfolding(c_grammar::specs::Reading::read_plain_either))]
 fn plain_either<'a>(
     alloc: Global,
-    names: &[Text],
+    names: &TypeNames,
     left: usize,
     before: List<Star>,
     ts: &'a [Token],
@@ -333,7 +334,7 @@ fn plain_either<'a>(
 #[tactic(auto, unfolding(c_grammar::specs::Reading::read_named_either))]
 fn named_either<'a>(
     alloc: Global,
-    names: &[Text],
+    names: &TypeNames,
     left: usize,
     before: List<Star>,
     ts: &'a [Token],
@@ -355,7 +356,7 @@ fn named_either<'a>(
 #[tactic(auto, unfolding(c_grammar::specs::Reading::read_group_either))]
 fn group_either<'a>(
     alloc: Global,
-    names: &[Text],
+    names: &TypeNames,
     left: usize,
     before: List<Star>,
     ts: &'a [Token],
@@ -374,7 +375,7 @@ fn group_either<'a>(
 #[tactic(auto, unfolding(c_grammar::specs::Reading::read_bare_either))]
 fn bare_either<'a>(
     alloc: Global,
-    names: &[Text],
+    names: &TypeNames,
     left: usize,
     before: List<Star>,
     ts: &'a [Token],
@@ -390,7 +391,7 @@ fn bare_either<'a>(
 #[tactic(auto, using(c_nodes::proofs::LevelLaws::nameless_rules), unfolding(c_grammar::specs::Reading::read_nameless))]
 pub fn nameless<'a>(
     alloc: Global,
-    names: &[Text],
+    names: &TypeNames,
     left: usize,
     ts: &'a [Token],
 ) -> Read<'a, Abstract>
@@ -413,7 +414,7 @@ pub fn nameless<'a>(
 #[tactic(auto, unfolding(c_grammar::specs::Reading::read_group_abstract))]
 fn group_abstract<'a>(
     alloc: Global,
-    names: &[Text],
+    names: &TypeNames,
     left: usize,
     before: List<Star>,
     ts: &'a [Token],

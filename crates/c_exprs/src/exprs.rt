@@ -5,8 +5,9 @@ ghost use Rattle.c_grammar.specs.Tokens.{Gives};
 ghost use Rattle.c_grammar.specs.Reading as spec;
 
 use crate::types::typename;
-use c_ast::{Access, Expr, Link};
+use c_ast::{Access, Expr, Link, Next};
 use c_grammar::begins::{begins_access, begins_expr, begins_step, type_follows};
+use c_grammar::names::TypeNames;
 use c_grammar::operators::{
     has_assign_op, has_op, has_step_op, has_un_op, take_assign_op, take_op, take_step_op,
     take_un_op,
@@ -18,7 +19,7 @@ use c_grammar::tokens::{
 use c_lex::token::{Keyword, Punct, Token};
 use c_nodes::levels::deep_if;
 use c_nodes::nodes::{accessed, alone, commas, joined};
-use cm_base::{List, Place, Text};
+use cm_base::{List, Place};
 use sqlite_items::Boxed;
 use std::alloc::Global;
 
@@ -27,15 +28,62 @@ use std::alloc::Global;
 #[tactic(auto, unfolding(c_grammar::specs::Reading::read_expr))]
 pub fn expr<'a>(
     alloc: Global,
-    names: &[Text],
+    names: &TypeNames,
     left: usize,
     ts: &'a [Token],
 ) -> Read<'a, Boxed<Expr>>
     ensures { Gives (λ x. (x.0, x.1.now)) result (spec.read_expr names.now (spec.levels names.now left) ts.now) }
 {
     let (first, rest) = assign(alloc, names, left, ts)?;
-    let (more, rest) = more_exprs(alloc, names, left, List::new(alloc), rest)?;
+    let (more, rest) = more_commas(alloc, names, left, List::new(alloc), rest)?;
     Ok((commas(alloc, first, more)?, rest))
+}
+
+/// "," assign, with the place of the comma.
+#[cycle(syntax)]
+#[tactic(auto, unfolding(c_grammar::specs::Reading::read_comma_item))]
+fn comma_item<'a>(
+    alloc: Global,
+    names: &TypeNames,
+    left: usize,
+    so_far: List<Next>,
+    ts: &'a [Token],
+) -> Read<'a, List<Next>>
+    ensures { Gives (λ x. (x.0, x.1.now)) result (spec.read_comma_item names.now (spec.levels names.now left) so_far ts.now) }
+{
+    let mut all = so_far;
+    let (place, rest) = expect(ts, Sign::Mark(Punct::Comma))?;
+    let (part, rest) = assign(alloc, names, left, rest)?;
+    all.push(Next {
+        place,
+        value: part.into_inner(),
+    })?;
+    Ok((all, rest))
+}
+
+/// { "," assign }, with the places of the commas.
+#[cycle(syntax)]
+#[tactic(auto, using(c_nodes::proofs::LevelLaws::repeat_rules), unfolding(c_grammar::specs::Reading::read_more_commas))]
+fn more_commas<'a>(
+    alloc: Global,
+    names: &TypeNames,
+    left: usize,
+    so_far: List<Next>,
+    ts: &'a [Token],
+) -> Read<'a, List<Next>>
+    ensures { Gives (λ x. (x.0, x.1.now)) result (spec.read_more_commas names.now (spec.levels names.now left) so_far ts.now) }
+{
+    let mut all = so_far;
+    let mut rest = ts;
+    for _ in 0..ts.len() {
+        if !next_is(rest, Sign::Mark(Punct::Comma)) {
+            return Ok((all, rest));
+        }
+        let (more, after) = comma_item(alloc, names, left, all, rest)?;
+        all = more;
+        rest = after;
+    }
+    Ok((all, rest))
 }
 
 /// "," assign
@@ -43,7 +91,7 @@ pub fn expr<'a>(
 #[tactic(auto, unfolding(c_grammar::specs::Reading::read_expr_item))]
 fn expr_item<'a>(
     alloc: Global,
-    names: &[Text],
+    names: &TypeNames,
     left: usize,
     so_far: List<Expr>,
     ts: &'a [Token],
@@ -62,7 +110,7 @@ fn expr_item<'a>(
 #[tactic(auto, using(c_nodes::proofs::LevelLaws::repeat_rules), unfolding(c_grammar::specs::Reading::read_more_exprs))]
 fn more_exprs<'a>(
     alloc: Global,
-    names: &[Text],
+    names: &TypeNames,
     left: usize,
     so_far: List<Expr>,
     ts: &'a [Token],
@@ -87,7 +135,7 @@ fn more_exprs<'a>(
 #[tactic(auto, using(c_nodes::proofs::LevelLaws::assign_rules), unfolding(c_grammar::specs::Reading::read_assign))]
 pub fn assign<'a>(
     alloc: Global,
-    names: &[Text],
+    names: &TypeNames,
     left: usize,
     ts: &'a [Token],
 ) -> Read<'a, Boxed<Expr>>
@@ -109,7 +157,7 @@ pub fn assign<'a>(
 #[tactic(auto, unfolding(c_grammar::specs::Reading::read_assigned))]
 fn assigned<'a>(
     alloc: Global,
-    names: &[Text],
+    names: &TypeNames,
     left: usize,
     to: Boxed<Expr>,
     ts: &'a [Token],
@@ -127,7 +175,7 @@ fn assigned<'a>(
 #[tactic(auto, using(c_nodes::proofs::LevelLaws::cond_rules), unfolding(c_grammar::specs::Reading::read_cond))]
 pub fn cond<'a>(
     alloc: Global,
-    names: &[Text],
+    names: &TypeNames,
     left: usize,
     ts: &'a [Token],
 ) -> Read<'a, Boxed<Expr>>
@@ -149,7 +197,7 @@ pub fn cond<'a>(
 #[tactic(auto, unfolding(c_grammar::specs::Reading::read_chosen))]
 fn chosen<'a>(
     alloc: Global,
-    names: &[Text],
+    names: &TypeNames,
     left: usize,
     test: Boxed<Expr>,
     ts: &'a [Token],
@@ -169,7 +217,7 @@ fn chosen<'a>(
 #[tactic(auto, unfolding(c_grammar::specs::Reading::read_op_item))]
 fn op_item<'a>(
     alloc: Global,
-    names: &[Text],
+    names: &TypeNames,
     left: usize,
     level: usize,
     so_far: List<Link>,
@@ -194,7 +242,7 @@ fn op_item<'a>(
 #[tactic(auto, using(c_nodes::proofs::LevelLaws::repeat_rules), unfolding(c_grammar::specs::Reading::read_more_ops))]
 fn more_ops<'a>(
     alloc: Global,
-    names: &[Text],
+    names: &TypeNames,
     left: usize,
     level: usize,
     so_far: List<Link>,
@@ -222,7 +270,7 @@ fn more_ops<'a>(
 #[tactic(auto, using(c_nodes::proofs::LevelLaws::binary_rules), unfolding(c_grammar::specs::Reading::read_binary))]
 fn binary<'a>(
     alloc: Global,
-    names: &[Text],
+    names: &TypeNames,
     left: usize,
     level: usize,
     ts: &'a [Token],
@@ -242,7 +290,7 @@ fn binary<'a>(
 /// cast = "(" typename ")" cast | unary
 #[cycle(syntax)]
 #[tactic(auto, using(c_nodes::proofs::LevelLaws::cast_rules), unfolding(c_grammar::specs::Reading::read_cast))]
-fn cast<'a>(alloc: Global, names: &[Text], left: usize, ts: &'a [Token]) -> Read<'a, Boxed<Expr>>
+fn cast<'a>(alloc: Global, names: &TypeNames, left: usize, ts: &'a [Token]) -> Read<'a, Boxed<Expr>>
     ensures { Gives (λ x. (x.0, x.1.now)) result ((spec.levels names.now left).cast ts.now) }
 {
     if left == 0 {
@@ -260,7 +308,7 @@ fn cast<'a>(alloc: Global, names: &[Text], left: usize, ts: &'a [Token]) -> Read
 #[tactic(auto, unfolding(c_grammar::specs::Reading::read_converted))]
 fn converted<'a>(
     alloc: Global,
-    names: &[Text],
+    names: &TypeNames,
     left: usize,
     ts: &'a [Token],
 ) -> Read<'a, Boxed<Expr>>
@@ -277,7 +325,7 @@ fn converted<'a>(
 /// | "sizeof" ( unary | "(" typename ")" ) | postfix
 #[cycle(syntax)]
 #[tactic(auto, unfolding(c_grammar::specs::Reading::read_unary))]
-fn unary<'a>(alloc: Global, names: &[Text], left: usize, ts: &'a [Token]) -> Read<'a, Boxed<Expr>>
+fn unary<'a>(alloc: Global, names: &TypeNames, left: usize, ts: &'a [Token]) -> Read<'a, Boxed<Expr>>
     ensures { Gives (λ x. (x.0, x.1.now)) result (spec.read_unary names.now (spec.levels names.now left) ts.now) }
 {
     if begins_step(ts) {
@@ -294,7 +342,7 @@ fn unary<'a>(alloc: Global, names: &[Text], left: usize, ts: &'a [Token]) -> Rea
 #[tactic(auto, unfolding(c_grammar::specs::Reading::read_prefixed))]
 fn prefixed<'a>(
     alloc: Global,
-    names: &[Text],
+    names: &TypeNames,
     left: usize,
     ts: &'a [Token],
 ) -> Read<'a, Boxed<Expr>>
@@ -308,7 +356,7 @@ fn prefixed<'a>(
 /// ( "++" | "--" ) unary | "sizeof" ( unary | "(" typename ")" )
 #[cycle(syntax)]
 #[tactic(auto, using(c_nodes::proofs::LevelLaws::stepped_rules), unfolding(c_grammar::specs::Reading::read_stepped))]
-fn stepped<'a>(alloc: Global, names: &[Text], left: usize, ts: &'a [Token]) -> Read<'a, Boxed<Expr>>
+fn stepped<'a>(alloc: Global, names: &TypeNames, left: usize, ts: &'a [Token]) -> Read<'a, Boxed<Expr>>
     ensures { Gives (λ x. (x.0, x.1.now)) result ((spec.levels names.now left).stepped ts.now) }
 {
     if left == 0 {
@@ -326,7 +374,7 @@ fn stepped<'a>(alloc: Global, names: &[Text], left: usize, ts: &'a [Token]) -> R
 #[tactic(auto, unfolding(c_grammar::specs::Reading::read_step_before))]
 fn step_before<'a>(
     alloc: Global,
-    names: &[Text],
+    names: &TypeNames,
     left: usize,
     ts: &'a [Token],
 ) -> Read<'a, Boxed<Expr>>
@@ -340,7 +388,7 @@ fn step_before<'a>(
 /// "sizeof" ( unary | "(" typename ")" )
 #[cycle(syntax)]
 #[tactic(auto, unfolding(c_grammar::specs::Reading::read_size_of))]
-fn size_of<'a>(alloc: Global, names: &[Text], left: usize, ts: &'a [Token]) -> Read<'a, Boxed<Expr>>
+fn size_of<'a>(alloc: Global, names: &TypeNames, left: usize, ts: &'a [Token]) -> Read<'a, Boxed<Expr>>
     ensures { Gives (λ x. (x.0, x.1.now)) result (spec.read_size_of names.now (spec.levels names.now left) ts.now) }
 {
     let (place, rest) = expect(ts, Sign::Word(Keyword::Sizeof))?;
@@ -355,7 +403,7 @@ fn size_of<'a>(alloc: Global, names: &[Text], left: usize, ts: &'a [Token]) -> R
 #[tactic(auto, unfolding(c_grammar::specs::Reading::read_sizeof_type))]
 fn sizeof_type<'a>(
     alloc: Global,
-    names: &[Text],
+    names: &TypeNames,
     left: usize,
     place: Place,
     ts: &'a [Token],
@@ -373,7 +421,7 @@ fn sizeof_type<'a>(
 #[tactic(auto, unfolding(c_grammar::specs::Reading::read_sizeof_expr))]
 fn sizeof_expr<'a>(
     alloc: Global,
-    names: &[Text],
+    names: &TypeNames,
     left: usize,
     place: Place,
     ts: &'a [Token],
@@ -387,7 +435,7 @@ fn sizeof_expr<'a>(
 /// postfix = primary { "[" expr "]" | "(" [ assign { "," assign } ] ")" | "." NAME | "->" NAME | "++" | "--" }
 #[cycle(syntax)]
 #[tactic(auto, unfolding(c_grammar::specs::Reading::read_postfix))]
-fn postfix<'a>(alloc: Global, names: &[Text], left: usize, ts: &'a [Token]) -> Read<'a, Boxed<Expr>>
+fn postfix<'a>(alloc: Global, names: &TypeNames, left: usize, ts: &'a [Token]) -> Read<'a, Boxed<Expr>>
     ensures { Gives (λ x. (x.0, x.1.now)) result (spec.read_postfix names.now (spec.levels names.now left) ts.now) }
 {
     let (first, rest) = primary(alloc, names, left, ts)?;
@@ -400,7 +448,7 @@ fn postfix<'a>(alloc: Global, names: &[Text], left: usize, ts: &'a [Token]) -> R
 #[tactic(auto, unfolding(c_grammar::specs::Reading::read_access_item))]
 fn access_item<'a>(
     alloc: Global,
-    names: &[Text],
+    names: &TypeNames,
     left: usize,
     so_far: List<Access>,
     ts: &'a [Token],
@@ -418,7 +466,7 @@ fn access_item<'a>(
 #[tactic(auto, using(c_nodes::proofs::LevelLaws::repeat_rules), unfolding(c_grammar::specs::Reading::read_accesses))]
 fn accesses<'a>(
     alloc: Global,
-    names: &[Text],
+    names: &TypeNames,
     left: usize,
     so_far: List<Access>,
     ts: &'a [Token],
@@ -441,7 +489,7 @@ fn accesses<'a>(
 /// "[" expr "]" | "(" [ assign { "," assign } ] ")" | "." NAME | "->" NAME | "++" | "--"
 #[cycle(syntax)]
 #[tactic(auto, unfolding(c_grammar::specs::Reading::read_access))]
-fn access<'a>(alloc: Global, names: &[Text], left: usize, ts: &'a [Token]) -> Read<'a, Access>
+fn access<'a>(alloc: Global, names: &TypeNames, left: usize, ts: &'a [Token]) -> Read<'a, Access>
     ensures { Gives (λ x. (x.0, x.1.now)) result (spec.read_access names.now (spec.levels names.now left) ts.now) }
 {
     if next_is(ts, Sign::Mark(Punct::BracketOpen)) {
@@ -467,19 +515,19 @@ fn access<'a>(alloc: Global, names: &[Text], left: usize, ts: &'a [Token]) -> Re
 /// "[" expr "]"
 #[cycle(syntax)]
 #[tactic(auto, unfolding(c_grammar::specs::Reading::read_indexed))]
-fn indexed<'a>(alloc: Global, names: &[Text], left: usize, ts: &'a [Token]) -> Read<'a, Access>
+fn indexed<'a>(alloc: Global, names: &TypeNames, left: usize, ts: &'a [Token]) -> Read<'a, Access>
     ensures { Gives (λ x. (x.0, x.1.now)) result (spec.read_indexed names.now (spec.levels names.now left) ts.now) }
 {
     let (place, rest) = expect(ts, Sign::Mark(Punct::BracketOpen))?;
     let (at, rest) = expr(alloc, names, left, rest)?;
     let (_close, rest) = expect(rest, Sign::Mark(Punct::BracketClose))?;
-    Ok((Access::Index(place, at.into_inner()), rest))
+    Ok((Access::Index(place, at), rest))
 }
 
 /// "(" [ assign { "," assign } ] ")"
 #[cycle(syntax)]
 #[tactic(auto, unfolding(c_grammar::specs::Reading::read_called))]
-fn called<'a>(alloc: Global, names: &[Text], left: usize, ts: &'a [Token]) -> Read<'a, Access>
+fn called<'a>(alloc: Global, names: &TypeNames, left: usize, ts: &'a [Token]) -> Read<'a, Access>
     ensures { Gives (λ x. (x.0, x.1.now)) result (spec.read_called names.now (spec.levels names.now left) ts.now) }
 {
     let (place, rest) = expect(ts, Sign::Mark(Punct::ParenOpen))?;
@@ -491,7 +539,7 @@ fn called<'a>(alloc: Global, names: &[Text], left: usize, ts: &'a [Token]) -> Re
 /// [ assign { "," assign } ]
 #[cycle(syntax)]
 #[tactic(auto, unfolding(c_grammar::specs::Reading::read_args))]
-fn args<'a>(alloc: Global, names: &[Text], left: usize, ts: &'a [Token]) -> Read<'a, List<Expr>>
+fn args<'a>(alloc: Global, names: &TypeNames, left: usize, ts: &'a [Token]) -> Read<'a, List<Expr>>
     ensures { Gives (λ x. (x.0, x.1.now)) result (spec.read_args names.now (spec.levels names.now left) ts.now) }
 {
     if begins_expr(names, ts) {
@@ -505,7 +553,7 @@ fn args<'a>(alloc: Global, names: &[Text], left: usize, ts: &'a [Token]) -> Read
 #[tactic(auto, unfolding(c_grammar::specs::Reading::read_some_args))]
 fn some_args<'a>(
     alloc: Global,
-    names: &[Text],
+    names: &TypeNames,
     left: usize,
     ts: &'a [Token],
 ) -> Read<'a, List<Expr>>
@@ -518,7 +566,7 @@ fn some_args<'a>(
 /// primary = NAME | NUMBER | CHAR | STRING | "(" expr ")"
 #[cycle(syntax)]
 #[tactic(auto, unfolding(c_grammar::specs::Reading::read_primary))]
-fn primary<'a>(alloc: Global, names: &[Text], left: usize, ts: &'a [Token]) -> Read<'a, Boxed<Expr>>
+fn primary<'a>(alloc: Global, names: &TypeNames, left: usize, ts: &'a [Token]) -> Read<'a, Boxed<Expr>>
     ensures { Gives (λ x. (x.0, x.1.now)) result (spec.read_primary names.now (spec.levels names.now left) ts.now) }
 {
     if next_is_name(names, ts) {
@@ -543,7 +591,7 @@ fn primary<'a>(alloc: Global, names: &[Text], left: usize, ts: &'a [Token]) -> R
 /// "(" expr ")"
 #[cycle(syntax)]
 #[tactic(auto, unfolding(c_grammar::specs::Reading::read_grouped))]
-fn grouped<'a>(alloc: Global, names: &[Text], left: usize, ts: &'a [Token]) -> Read<'a, Boxed<Expr>>
+fn grouped<'a>(alloc: Global, names: &TypeNames, left: usize, ts: &'a [Token]) -> Read<'a, Boxed<Expr>>
     ensures { Gives (λ x. (x.0, x.1.now)) result (spec.read_grouped names.now (spec.levels names.now left) ts.now) }
 {
     let (place, rest) = expect(ts, Sign::Mark(Punct::ParenOpen))?;

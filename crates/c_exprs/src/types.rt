@@ -7,13 +7,15 @@ use crate::declarators::{declarator, nameless};
 use crate::exprs::cond;
 use c_ast::{Declarator, EnumSpec, Enumerator, Member, Name, Spec, StructSpec, TypeName};
 use c_grammar::begins::{begins_spec, comma_more};
+use c_grammar::names::TypeNames;
 use c_grammar::operators::{has_spec_word, take_spec_word};
 use c_grammar::tokens::{Read, Sign, expect, next_is, next_is_name, take_name, take_type};
 use c_lex::token::{Keyword, Punct, Token};
 use c_nodes::attrs::{attr, opt_comma};
 use c_nodes::levels::deep_if;
-use c_nodes::nodes::{alone, no_name};
-use cm_base::{List, Place, Text};
+use c_nodes::nodes::alone;
+use cm_base::{List, Place};
+use sqlite_items::Boxed;
 use std::alloc::Global;
 
 /// typename = specs abstract
@@ -21,15 +23,16 @@ use std::alloc::Global;
 #[tactic(auto, unfolding(c_grammar::specs::Reading::read_typename))]
 pub fn typename<'a>(
     alloc: Global,
-    names: &[Text],
+    names: &TypeNames,
     left: usize,
     ts: &'a [Token],
-) -> Read<'a, TypeName>
+) -> Read<'a, Boxed<TypeName>>
     ensures { Gives (λ x. (x.0, x.1.now)) result (spec.read_typename names.now (spec.levels names.now left) ts.now) }
 {
     let (specs, rest) = specs(alloc, names, left, ts)?;
     let (declarator, rest) = nameless(alloc, names, left, rest)?;
-    Ok((TypeName { specs, declarator }, rest))
+    let whole = TypeName { specs, declarator };
+    Ok((Boxed::new(alloc, whole)?, rest))
 }
 
 /// specs = spec { spec }
@@ -37,7 +40,7 @@ pub fn typename<'a>(
 #[tactic(auto, unfolding(c_grammar::specs::Reading::read_specs))]
 pub fn specs<'a>(
     alloc: Global,
-    names: &[Text],
+    names: &TypeNames,
     left: usize,
     ts: &'a [Token],
 ) -> Read<'a, List<Spec>>
@@ -52,7 +55,7 @@ pub fn specs<'a>(
 #[tactic(auto, unfolding(c_grammar::specs::Reading::read_spec_item))]
 fn spec_item<'a>(
     alloc: Global,
-    names: &[Text],
+    names: &TypeNames,
     left: usize,
     so_far: List<Spec>,
     ts: &'a [Token],
@@ -70,7 +73,7 @@ fn spec_item<'a>(
 #[tactic(auto, using(c_nodes::proofs::LevelLaws::repeat_rules), unfolding(c_grammar::specs::Reading::read_more_specs))]
 fn more_specs<'a>(
     alloc: Global,
-    names: &[Text],
+    names: &TypeNames,
     left: usize,
     so_far: List<Spec>,
     ts: &'a [Token],
@@ -95,7 +98,7 @@ fn more_specs<'a>(
 /// | TYPENAME | struct | enum | attr
 #[cycle(syntax)]
 #[tactic(auto, unfolding(c_grammar::specs::Reading::read_spec))]
-fn spec<'a>(alloc: Global, names: &[Text], left: usize, ts: &'a [Token]) -> Read<'a, Spec>
+fn spec<'a>(alloc: Global, names: &TypeNames, left: usize, ts: &'a [Token]) -> Read<'a, Spec>
     ensures { Gives (λ x. (x.0, x.1.now)) result (spec.read_spec names.now (spec.levels names.now left) ts.now) }
 {
     if has_spec_word(ts) {
@@ -123,10 +126,10 @@ fn spec<'a>(alloc: Global, names: &[Text], left: usize, ts: &'a [Token]) -> Read
 #[tactic(auto, using(c_nodes::proofs::LevelLaws::structs_rules), unfolding(c_grammar::specs::Reading::read_structs))]
 fn struct_spec<'a>(
     alloc: Global,
-    names: &[Text],
+    names: &TypeNames,
     left: usize,
     ts: &'a [Token],
-) -> Read<'a, StructSpec>
+) -> Read<'a, Boxed<StructSpec>>
     ensures { Gives (λ x. (x.0, x.1.now)) result ((spec.levels names.now left).structs ts.now) }
 {
     if left == 0 {
@@ -138,7 +141,8 @@ fn struct_spec<'a>(
         return struct_named(alloc, names, left, place, rest);
     }
     let (all, rest) = members(alloc, names, left, rest)?;
-    Ok((StructSpec::Body(place, no_name(alloc, place), all), rest))
+    let whole = StructSpec::Body(place, None, all);
+    Ok((Boxed::new(alloc, whole)?, rest))
 }
 
 /// NAME "{" member { member } "}" | NAME, after `struct`.
@@ -146,19 +150,20 @@ fn struct_spec<'a>(
 #[tactic(auto, unfolding(c_grammar::specs::Reading::read_struct_named))]
 fn struct_named<'a>(
     alloc: Global,
-    names: &[Text],
+    names: &TypeNames,
     left: usize,
     place: Place,
     ts: &'a [Token],
-) -> Read<'a, StructSpec>
+) -> Read<'a, Boxed<StructSpec>>
     ensures { Gives (λ x. (x.0, x.1.now)) result (spec.read_struct_named names.now (spec.levels names.now left) place ts.now) }
 {
     let (tag, rest) = take_name(alloc, names, ts)?;
     if next_is(rest, Sign::Mark(Punct::BraceOpen)) {
         let (all, rest) = members(alloc, names, left, rest)?;
-        return Ok((StructSpec::Body(place, tag, all), rest));
+        let whole = StructSpec::Body(place, Some(tag), all);
+        return Ok((Boxed::new(alloc, whole)?, rest));
     }
-    Ok((StructSpec::Tag(place, tag), rest))
+    Ok((Boxed::new(alloc, StructSpec::Tag(place, tag))?, rest))
 }
 
 /// "{" member { member } "}"
@@ -166,7 +171,7 @@ fn struct_named<'a>(
 #[tactic(auto, unfolding(c_grammar::specs::Reading::read_members))]
 fn members<'a>(
     alloc: Global,
-    names: &[Text],
+    names: &TypeNames,
     left: usize,
     ts: &'a [Token],
 ) -> Read<'a, List<Member>>
@@ -184,7 +189,7 @@ fn members<'a>(
 #[tactic(auto, unfolding(c_grammar::specs::Reading::read_member_item))]
 fn member_item<'a>(
     alloc: Global,
-    names: &[Text],
+    names: &TypeNames,
     left: usize,
     so_far: List<Member>,
     ts: &'a [Token],
@@ -202,7 +207,7 @@ fn member_item<'a>(
 #[tactic(auto, using(c_nodes::proofs::LevelLaws::repeat_rules), unfolding(c_grammar::specs::Reading::read_more_members))]
 fn more_members<'a>(
     alloc: Global,
-    names: &[Text],
+    names: &TypeNames,
     left: usize,
     so_far: List<Member>,
     ts: &'a [Token],
@@ -225,7 +230,7 @@ fn more_members<'a>(
 /// member = specs declarator { "," declarator } ";"
 #[cycle(syntax)]
 #[tactic(auto, unfolding(c_grammar::specs::Reading::read_member))]
-fn member<'a>(alloc: Global, names: &[Text], left: usize, ts: &'a [Token]) -> Read<'a, Member>
+fn member<'a>(alloc: Global, names: &TypeNames, left: usize, ts: &'a [Token]) -> Read<'a, Member>
     ensures { Gives (λ x. (x.0, x.1.now)) result (spec.read_member names.now (spec.levels names.now left) ts.now) }
 {
     let (specs, rest) = specs(alloc, names, left, ts)?;
@@ -240,7 +245,7 @@ fn member<'a>(alloc: Global, names: &[Text], left: usize, ts: &'a [Token]) -> Re
 #[tactic(auto, unfolding(c_grammar::specs::Reading::read_declarator_item))]
 fn declarator_item<'a>(
     alloc: Global,
-    names: &[Text],
+    names: &TypeNames,
     left: usize,
     so_far: List<Declarator>,
     ts: &'a [Token],
@@ -259,7 +264,7 @@ fn declarator_item<'a>(
 #[tactic(auto, using(c_nodes::proofs::LevelLaws::repeat_rules), unfolding(c_grammar::specs::Reading::read_more_declarators))]
 fn more_declarators<'a>(
     alloc: Global,
-    names: &[Text],
+    names: &TypeNames,
     left: usize,
     so_far: List<Declarator>,
     ts: &'a [Token],
@@ -282,7 +287,7 @@ fn more_declarators<'a>(
 /// enum = "enum" [ NAME ] "{" enumr { "," enumr } [ "," ] "}" | "enum" NAME
 #[cycle(syntax)]
 #[tactic(auto, unfolding(c_grammar::specs::Reading::read_enums))]
-fn enum_spec<'a>(alloc: Global, names: &[Text], left: usize, ts: &'a [Token]) -> Read<'a, EnumSpec>
+fn enum_spec<'a>(alloc: Global, names: &TypeNames, left: usize, ts: &'a [Token]) -> Read<'a, Boxed<EnumSpec>>
     ensures { Gives (λ x. (x.0, x.1.now)) result (spec.read_enums names.now (spec.levels names.now left) ts.now) }
 {
     let (place, rest) = expect(ts, Sign::Word(Keyword::Enum))?;
@@ -290,7 +295,8 @@ fn enum_spec<'a>(alloc: Global, names: &[Text], left: usize, ts: &'a [Token]) ->
         return enum_named(alloc, names, left, place, rest);
     }
     let (all, rest) = enumrs(alloc, names, left, rest)?;
-    Ok((EnumSpec::Body(place, no_name(alloc, place), all), rest))
+    let whole = EnumSpec::Body(place, None, all);
+    Ok((Boxed::new(alloc, whole)?, rest))
 }
 
 /// NAME "{" enumr { "," enumr } [ "," ] "}" | NAME, after `enum`.
@@ -298,19 +304,20 @@ fn enum_spec<'a>(alloc: Global, names: &[Text], left: usize, ts: &'a [Token]) ->
 #[tactic(auto, unfolding(c_grammar::specs::Reading::read_enum_named))]
 fn enum_named<'a>(
     alloc: Global,
-    names: &[Text],
+    names: &TypeNames,
     left: usize,
     place: Place,
     ts: &'a [Token],
-) -> Read<'a, EnumSpec>
+) -> Read<'a, Boxed<EnumSpec>>
     ensures { Gives (λ x. (x.0, x.1.now)) result (spec.read_enum_named names.now (spec.levels names.now left) place ts.now) }
 {
     let (tag, rest) = take_name(alloc, names, ts)?;
     if next_is(rest, Sign::Mark(Punct::BraceOpen)) {
         let (all, rest) = enumrs(alloc, names, left, rest)?;
-        return Ok((EnumSpec::Body(place, tag, all), rest));
+        let whole = EnumSpec::Body(place, Some(tag), all);
+        return Ok((Boxed::new(alloc, whole)?, rest));
     }
-    Ok((EnumSpec::Tag(place, tag), rest))
+    Ok((Boxed::new(alloc, EnumSpec::Tag(place, tag))?, rest))
 }
 
 /// "{" enumr { "," enumr } [ "," ] "}"
@@ -318,7 +325,7 @@ fn enum_named<'a>(
 #[tactic(auto, unfolding(c_grammar::specs::Reading::read_enumrs))]
 fn enumrs<'a>(
     alloc: Global,
-    names: &[Text],
+    names: &TypeNames,
     left: usize,
     ts: &'a [Token],
 ) -> Read<'a, List<Enumerator>>
@@ -337,7 +344,7 @@ fn enumrs<'a>(
 #[tactic(auto, unfolding(c_grammar::specs::Reading::read_enumr_item))]
 fn enumr_item<'a>(
     alloc: Global,
-    names: &[Text],
+    names: &TypeNames,
     left: usize,
     so_far: List<Enumerator>,
     ts: &'a [Token],
@@ -356,7 +363,7 @@ fn enumr_item<'a>(
 #[tactic(auto, using(c_nodes::proofs::LevelLaws::repeat_rules), unfolding(c_grammar::specs::Reading::read_more_enumrs))]
 fn more_enumrs<'a>(
     alloc: Global,
-    names: &[Text],
+    names: &TypeNames,
     left: usize,
     so_far: List<Enumerator>,
     ts: &'a [Token],
@@ -379,7 +386,7 @@ fn more_enumrs<'a>(
 /// enumr = NAME [ "=" cond ]
 #[cycle(syntax)]
 #[tactic(auto, unfolding(c_grammar::specs::Reading::read_enumr))]
-fn enumr<'a>(alloc: Global, names: &[Text], left: usize, ts: &'a [Token]) -> Read<'a, Enumerator>
+fn enumr<'a>(alloc: Global, names: &TypeNames, left: usize, ts: &'a [Token]) -> Read<'a, Enumerator>
     ensures { Gives (λ x. (x.0, x.1.now)) result (spec.read_enumr names.now (spec.levels names.now left) ts.now) }
 {
     let (name, rest) = take_name(alloc, names, ts)?;
@@ -394,7 +401,7 @@ fn enumr<'a>(alloc: Global, names: &[Text], left: usize, ts: &'a [Token]) -> Rea
 #[tactic(auto, unfolding(c_grammar::specs::Reading::read_enumr_value))]
 fn enumr_value<'a>(
     alloc: Global,
-    names: &[Text],
+    names: &TypeNames,
     left: usize,
     name: Name,
     ts: &'a [Token],
@@ -406,7 +413,7 @@ fn enumr_value<'a>(
     Ok((
         Enumerator {
             name,
-            value: Some(value.into_inner()),
+            value: Some(value),
         },
         rest,
     ))

@@ -3,3 +3,4 @@ pub mod UnitShrinks
 pub mod Soundness
 pub mod Sound
 pub mod UnitSound
+mod KnownLaws

@@ -8,6 +8,7 @@ use Rattle.c_ast.specs.declared.expr.Attr.{Attr}
 use Rattle.c_ast.specs.declared.expr.Star.{Star}
 use Rattle.c_ast.specs.declared.expr.Expr.{Expr}
 use Rattle.c_ast.specs.declared.expr.Link.{Link}
+use Rattle.c_ast.specs.declared.expr.Next.{Next as After}
 use Rattle.c_ast.specs.declared.expr.Access.{Access}
 use Rattle.c_ast.specs.declared.expr.TypeName.{TypeName}
 use Rattle.c_ast.specs.declared.expr.Spec.{Spec}
@@ -20,7 +21,7 @@ use Rattle.c_ast.specs.declared.expr.Suffix.{Suffix}
 use Rattle.c_ast.specs.declared.expr.Params.{Params}
 use Rattle.c_ast.specs.declared.expr.Param.{Param}
 use Rattle.c_ast.specs.declared.expr.Abstract.{Abstract}
-use Rattle.c_grammar.specs.Grammar.{one_with, one_plain, OneAt, no_one, next_one, MoreOnes, attr_, AttrAt, no_attr, next_attr, Attrs, no_lead, next_lead, LeadAttrs, star_star, star_const, star_volatile, star_attr, StarAt, no_star, next_star, MoreStars, some_stars, no_stars, Stars, a_comma, no_comma, OptComma, exprs, ExprAt, no_expr, next_expr, MoreExprs, assigned, only_cond, Assign, chosen, only_binary, Cond, converted, only_unary, Cast, type_name, TypeNameAt, counted_unary, prefixed, only_postfix, Unary, step_before, a_sizeof, Stepped, sizeof_type, sizeof_expr, SizeofAt, postfixed, Postfix, no_access, next_access, Accesses, indexed, called, member_of, member_behind, step_after, AccessAt, some_args, no_args, Args, a_name, a_number, a_char, a_string, grouped, Primary, some_specs, SpecsAt, no_spec, next_spec, MoreSpecs, a_word, a_struct, an_enum, an_attr, a_type, SpecAt, struct_body, struct_tag, struct_plain, StructAt, braced_members, Members, no_member, next_member, MoreMembers, a_member, MemberAt, no_declarator, next_declarator, MoreDeclarators, enum_body, enum_tag, enum_plain, EnumAt, braced_enumrs, Enumrs, no_enumr, next_enumr, MoreEnumrs, enumr_value, enumr_plain, EnumrAt, plain_declarator, group_declarator, DeclaratorAt, no_suffix, next_suffix, Suffixes, array_suffix, params_suffix, SuffixAt, a_cond, no_cond, OptCond, void_only, some_params, no_params, ParamsAt, no_param, next_param, MoreParams, group_abstract, plain_abstract, AbstractAt, Binary, MoreOps, only_cast, binaries, no_op, next_op, ParamAt, named_param, unnamed_param, Next, token, Takes, takes}
+use Rattle.c_grammar.specs.Grammar.{one_with, one_plain, OneAt, no_one, next_one, MoreOnes, attr_, AttrAt, no_attr, next_attr, Attrs, no_lead, next_lead, LeadAttrs, star_star, star_const, star_volatile, star_attr, StarAt, no_star, next_star, MoreStars, some_stars, no_stars, Stars, a_comma, no_comma, OptComma, exprs, ExprAt, no_commas, next_comma, MoreCommas, no_expr, next_expr, MoreExprs, assigned, only_cond, Assign, chosen, only_binary, Cond, converted, only_unary, Cast, type_name, TypeNameAt, counted_unary, prefixed, only_postfix, Unary, step_before, a_sizeof, Stepped, sizeof_type, sizeof_expr, SizeofAt, postfixed, Postfix, no_access, next_access, Accesses, indexed, called, member_of, member_behind, step_after, AccessAt, some_args, no_args, Args, a_name, a_number, a_char, a_string, grouped, Primary, some_specs, SpecsAt, no_spec, next_spec, MoreSpecs, a_word, a_struct, an_enum, an_attr, a_type, SpecAt, struct_body, struct_tag, struct_plain, StructAt, braced_members, Members, no_member, next_member, MoreMembers, a_member, MemberAt, no_declarator, next_declarator, MoreDeclarators, enum_body, enum_tag, enum_plain, EnumAt, braced_enumrs, Enumrs, no_enumr, next_enumr, MoreEnumrs, enumr_value, enumr_plain, EnumrAt, plain_declarator, group_declarator, DeclaratorAt, no_suffix, next_suffix, Suffixes, array_suffix, params_suffix, SuffixAt, a_cond, no_cond, OptCond, void_only, some_params, no_params, ParamsAt, no_param, next_param, MoreParams, group_abstract, plain_abstract, AbstractAt, Binary, MoreOps, only_cast, binaries, no_op, next_op, ParamAt, named_param, unnamed_param, Next, token, Takes, takes}
 
 pub next_shrinks : {s : Sign} {ts r : List Token} {p : Place} → Next s ts p r → length ts ≡ suc (length r)
 next_shrinks (token e) = refl
@@ -67,7 +68,11 @@ opt_comma_shrinks no_comma = omega arith
 
 mutual
   pub expr_shrinks : {names : List (List ℕ)} {ts rest : List Token} {a : Expr} → ExprAt names ts a rest → length rest < length ts
-  expr_shrinks (exprs d0 d1) = omega (arith, assign_shrinks d0, more_exprs_shrinks d1)
+  expr_shrinks (exprs d0 d1) = omega (arith, assign_shrinks d0, more_commas_shrinks d1)
+
+  pub more_commas_shrinks : {names : List (List ℕ)} {ts rest : List Token} {so_far all : List After} → MoreCommas names ts so_far all rest → length rest ≤ length ts
+  more_commas_shrinks no_commas = omega arith
+  more_commas_shrinks (next_comma d0 d1 m) = omega (arith, next_shrinks d0, assign_shrinks d1, more_commas_shrinks m)
 
   pub more_exprs_shrinks : {names : List (List ℕ)} {ts rest : List Token} {so_far all : List Expr} → MoreExprs names ts so_far all rest → length rest ≤ length ts
   more_exprs_shrinks no_expr = omega arith

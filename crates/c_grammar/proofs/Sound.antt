@@ -13,6 +13,7 @@ use Rattle.c_ast.specs.declared.expr.Star.TheVariants as star
 use Rattle.c_ast.specs.declared.expr.Expr.{Expr}
 use Rattle.c_ast.specs.declared.expr.Expr.TheVariants as tree
 use Rattle.c_ast.specs.declared.expr.Link.{Link}
+use Rattle.c_ast.specs.declared.expr.Next.{Next as After}
 use Rattle.c_ast.specs.declared.expr.Access.{Access}
 use Rattle.c_ast.specs.declared.expr.Access.TheVariants as access
 use Rattle.c_ast.specs.declared.expr.Spec.{Spec}
@@ -36,11 +37,11 @@ use Rattle.c_ast.specs.declared.stmt.Item.TheVariants as item
 use Rattle.c_ast.specs.declared.stmt.Part.{Part}
 use Rattle.c_ast.specs.declared.stmt.Part.TheVariants as part
 use Rattle.c_ast.specs.declared.stmt.Stmt.TheVariants as stmt
-use Rattle.c_grammar.specs.Tokens.{◌>>=◌, deep, is, next_is, expect, has, take, named, next_is_name, name_of, type_of, number_of, char_of, string_of, assign_op_of, un_op_of, step_op_of, spec_word_of, op_of, begins_spec, begins_expr, begins_step, begins_label, type_follows, void_params, opens_group, begins_abstract, begins_either}
+use Rattle.c_grammar.specs.Tokens.{◌>>=◌, deep, is, next_is, expect, has, take, next_is_name, name_of, type_of, number_of, char_of, string_of, assign_op_of, un_op_of, step_op_of, spec_word_of, op_of, begins_spec, begins_expr, begins_step, begins_label, type_follows, void_params, opens_group, begins_abstract, begins_either}
 use Rattle.c_grammar.specs.Tokens.{group_token}
-use Rattle.c_grammar.specs.Grammar.{one_with, one_plain, OneAt, no_one, next_one, MoreOnes, attr_, AttrAt, no_attr, next_attr, Attrs, no_lead, next_lead, LeadAttrs, star_star, star_const, star_volatile, star_attr, StarAt, no_star, next_star, MoreStars, some_stars, no_stars, Stars, a_comma, no_comma, OptComma, exprs, ExprAt, no_expr, next_expr, MoreExprs, assigned, only_cond, Assign, chosen, only_binary, Cond, converted, only_unary, Cast, type_name, TypeNameAt, counted_unary, prefixed, only_postfix, Unary, step_before, a_sizeof, Stepped, sizeof_type, sizeof_expr, SizeofAt, postfixed, Postfix, no_access, next_access, Accesses, indexed, called, member_of, member_behind, step_after, AccessAt, some_args, no_args, Args, a_name, a_number, a_char, a_string, grouped, Primary, some_specs, SpecsAt, no_spec, next_spec, MoreSpecs, a_word, a_struct, an_enum, an_attr, a_type, SpecAt, struct_body, struct_tag, struct_plain, StructAt, braced_members, Members, no_member, next_member, MoreMembers, a_member, MemberAt, no_declarator, next_declarator, MoreDeclarators, enum_body, enum_tag, enum_plain, EnumAt, braced_enumrs, Enumrs, no_enumr, next_enumr, MoreEnumrs, enumr_value, enumr_plain, EnumrAt, plain_declarator, group_declarator, DeclaratorAt, no_suffix, next_suffix, Suffixes, array_suffix, params_suffix, SuffixAt, a_cond, no_cond, OptCond, void_only, some_params, no_params, ParamsAt, no_param, next_param, MoreParams, group_abstract, plain_abstract, AbstractAt, Binary, MoreOps, only_cast, binaries, no_op, next_op, ParamAt, named_param, unnamed_param, Next}
+use Rattle.c_grammar.specs.Grammar.{one_with, one_plain, OneAt, no_one, next_one, MoreOnes, attr_, AttrAt, no_attr, next_attr, Attrs, no_lead, next_lead, LeadAttrs, star_star, star_const, star_volatile, star_attr, StarAt, no_star, next_star, MoreStars, some_stars, no_stars, Stars, a_comma, no_comma, OptComma, exprs, ExprAt, no_commas, next_comma, MoreCommas, no_expr, next_expr, MoreExprs, assigned, only_cond, Assign, chosen, only_binary, Cond, converted, only_unary, Cast, type_name, TypeNameAt, counted_unary, prefixed, only_postfix, Unary, step_before, a_sizeof, Stepped, sizeof_type, sizeof_expr, SizeofAt, postfixed, Postfix, no_access, next_access, Accesses, indexed, called, member_of, member_behind, step_after, AccessAt, some_args, no_args, Args, a_name, a_number, a_char, a_string, grouped, Primary, some_specs, SpecsAt, no_spec, next_spec, MoreSpecs, a_word, a_struct, an_enum, an_attr, a_type, SpecAt, struct_body, struct_tag, struct_plain, StructAt, braced_members, Members, no_member, next_member, MoreMembers, a_member, MemberAt, no_declarator, next_declarator, MoreDeclarators, enum_body, enum_tag, enum_plain, EnumAt, braced_enumrs, Enumrs, no_enumr, next_enumr, MoreEnumrs, enumr_value, enumr_plain, EnumrAt, plain_declarator, group_declarator, DeclaratorAt, no_suffix, next_suffix, Suffixes, array_suffix, params_suffix, SuffixAt, a_cond, no_cond, OptCond, void_only, some_params, no_params, ParamsAt, no_param, next_param, MoreParams, group_abstract, plain_abstract, AbstractAt, Binary, MoreOps, only_cast, binaries, no_op, next_op, ParamAt, named_param, unnamed_param, Next}
 use Rattle.c_grammar.specs.Units.{braced_initial, assign_initial, InitialAt, no_initial, next_initial, MoreInitials, init_value, init_plain, InitAt, no_init, next_init, MoreInits, bare_decl, inits_decl, DeclAt, an_expr, without_expr, OptExpr, first_decl, first_expr, FirstAt, case_label, default_label, LabelAt, braces, BlockAt, no_item, next_item, Items, decl_item, stmt_item, ItemAt, block_stmt, empty_stmt, return_stmt, break_stmt, continue_stmt, if_else, if_only, while_stmt, do_stmt, for_stmt, switch_stmt, expr_stmt, StmtAt, no_part, next_part, Parts, label_part, decl_part, stmt_part, PartAt}
-use Rattle.c_grammar.specs.Reading.{Readers, grouped_either, levels, no_either, no_nameless, opens_name, param_of, read_access, read_access_item, read_accesses, read_after_stars, read_args, read_array_suffix, read_assign, read_assigned, read_attr, read_attr_item, read_attrs, read_bare_either, read_binary, read_block, read_braced_initial, read_called, read_case_label, read_cast, read_chosen, read_cond, read_converted, read_decl, read_declarator, read_declarator_item, read_do_stmt, read_either, read_enum_named, read_enumr, read_enumr_item, read_enumr_value, read_enumrs, read_enums, read_expr, read_expr_item, read_first, read_for_stmt, read_group_abstract, read_group_declarator, read_group_either, read_grouped, read_if_else, read_if_stmt, read_indexed, read_init, read_init_end, read_init_item, read_init_value, read_initial, read_initial_item, read_inits_decl, read_item, read_item_item, read_items, read_label, read_lead_attrs, read_lead_item, read_member, read_member_item, read_members, read_more_declarators, read_more_enumrs, read_more_exprs, read_more_initials, read_more_inits, read_more_members, read_more_ones, read_more_ops, read_more_params, read_more_specs, read_more_stars, read_named_either, read_nameless, read_one, read_one_item, read_one_with, read_op_item, read_opt_comma, read_opt_cond, read_opt_expr, read_param, read_param_item, read_params, read_params_suffix, read_part, read_part_item, read_parts, read_plain_declarator, read_plain_either, read_postfix, read_prefixed, read_primary, read_return_stmt, read_size_of, read_sizeof_expr, read_sizeof_type, read_some_args, read_some_params, read_some_stars, read_spec, read_spec_item, read_specs, read_star, read_star_item, read_stars, read_step_before, read_stepped, read_stmt, read_struct_named, read_structs, read_suffix, read_suffix_item, read_suffixes, read_switch_stmt, read_typename, read_unary, read_while_stmt}
+use Rattle.c_grammar.specs.Reading.{Readers, grouped_either, levels, no_either, no_nameless, opens_name, param_of, read_access, read_access_item, read_accesses, read_after_stars, read_args, read_array_suffix, read_assign, read_assigned, read_attr, read_attr_item, read_attrs, read_bare_either, read_binary, read_block, read_braced_initial, read_called, read_case_label, read_cast, read_chosen, read_cond, read_converted, read_decl, read_declarator, read_declarator_item, read_do_stmt, read_either, read_enum_named, read_enumr, read_enumr_item, read_enumr_value, read_enumrs, read_enums, read_expr, read_comma_item, read_expr_item, read_first, read_for_stmt, read_group_abstract, read_group_declarator, read_group_either, read_grouped, read_if_else, read_if_stmt, read_indexed, read_init, read_init_end, read_init_item, read_init_value, read_initial, read_initial_item, read_inits_decl, read_item, read_item_item, read_items, read_label, read_lead_attrs, read_lead_item, read_member, read_member_item, read_members, read_more_declarators, read_more_enumrs, read_more_commas, read_more_exprs, read_more_initials, read_more_inits, read_more_members, read_more_ones, read_more_ops, read_more_params, read_more_specs, read_more_stars, read_named_either, read_nameless, read_one, read_one_item, read_one_with, read_op_item, read_opt_comma, read_opt_cond, read_opt_expr, read_param, read_param_item, read_params, read_params_suffix, read_part, read_part_item, read_parts, read_plain_declarator, read_plain_either, read_postfix, read_prefixed, read_primary, read_return_stmt, read_size_of, read_sizeof_expr, read_sizeof_type, read_some_args, read_some_params, read_some_stars, read_spec, read_spec_item, read_specs, read_star, read_star_item, read_stars, read_step_before, read_stepped, read_stmt, read_struct_named, read_structs, read_suffix, read_suffix_item, read_suffixes, read_switch_stmt, read_typename, read_unary, read_while_stmt}
 use Rattle.c_grammar.specs.declared.either.Either.{Either}
 use Rattle.c_grammar.specs.declared.either.Either.TheVariants as either
 use Rattle.c_grammar.proofs.Soundness.{Sound, and_so, done, fails, either, weaker, repeat_sound, repeat_sound_end, expect_sound, take_sound}
@@ -122,13 +123,21 @@ module _ (names : List (List ℕ)) (below : Readers) (h : Sounds names below) wh
   unfolding read_expr_item
   expr_item_sound so_far ts = and_so _ (expect_sound (Mark mark.Comma) ts) (λ k r1 d0. and_so _ (h.assign r1) (λ b r2 d1. done (λ all rest m. next_expr d0 d1 m)))
 
+  comma_item_sound : (so_far : List After) (ts : List Token) → Sound (λ b r. (all : List After) (rest : List Token) → MoreCommas names r b all rest → MoreCommas names ts so_far all rest) (read_comma_item names below so_far ts)
+  unfolding read_comma_item
+  comma_item_sound so_far ts = and_so _ (expect_sound (Mark mark.Comma) ts) (λ k r1 d0. and_so _ (h.assign r1) (λ b r2 d1. done (λ all rest m. next_comma d0 d1 m)))
+
+  pub more_commas_sound : (so_far : List After) (ts : List Token) → Sound (MoreCommas names ts so_far) (read_more_commas names below so_far ts)
+  unfolding read_more_commas
+  more_commas_sound so_far ts = repeat_sound (MoreCommas names) _ _ (λ ts a. no_commas) comma_item_sound (length ts) so_far ts
+
   pub more_exprs_sound : (so_far : List Expr) (ts : List Token) → Sound (MoreExprs names ts so_far) (read_more_exprs names below so_far ts)
   unfolding read_more_exprs
   more_exprs_sound so_far ts = repeat_sound (MoreExprs names) _ _ (λ ts a. no_expr) expr_item_sound (length ts) so_far ts
 
   pub expr_sound : (ts : List Token) → Sound (ExprAt names ts) (read_expr names below ts)
   unfolding read_expr
-  expr_sound ts = and_so _ (h.assign ts) (λ a r1 d0. and_so _ (more_exprs_sound [] r1) (λ more r2 d1. done (exprs d0 d1)))
+  expr_sound ts = and_so _ (h.assign ts) (λ a r1 d0. and_so _ (more_commas_sound [] r1) (λ more r2 d1. done (exprs d0 d1)))
 
   pub assign_sound : (ts : List Token) → Sound (Assign names ts) (read_assign names below ts)
   unfolding read_assign read_assigned
@@ -166,7 +175,7 @@ module _ (names : List (List ℕ)) (below : Readers) (h : Sounds names below) wh
 
   pub enums_sound : (ts : List Token) → Sound (EnumAt names ts) (read_enums names below ts)
   unfolding read_enums read_enum_named
-  enums_sound ts = and_so _ (expect_sound (Word word.Enum) ts) (λ p r1 d0. either (next_is_name names r1) (read_enum_named names below p r1) (read_enumrs names below r1 >>= (λ xs. Ok (enums.Body p (named p []) xs.0, xs.1))) (λ y0. and_so _ (take_sound (name_of names) r1) (λ n r2 d1. either (next_is (Mark mark.BraceOpen) r2) (read_enumrs names below r2 >>= (λ xs. Ok (enums.Body p n xs.0, xs.1))) (Ok (enums.Tag p n, r2)) (λ y1. and_so _ (enumrs_sound r2) (λ xs r3 d2. done (enum_body d0 d1 d2))) (λ n1. done (enum_tag d0 d1 n1)))) (λ n0. and_so _ (enumrs_sound r1) (λ xs r2 d1. done (enum_plain d0 d1))))
+  enums_sound ts = and_so _ (expect_sound (Word word.Enum) ts) (λ p r1 d0. either (next_is_name names r1) (read_enum_named names below p r1) (read_enumrs names below r1 >>= (λ xs. Ok (enums.Body p None xs.0, xs.1))) (λ y0. and_so _ (take_sound (name_of names) r1) (λ n r2 d1. either (next_is (Mark mark.BraceOpen) r2) (read_enumrs names below r2 >>= (λ xs. Ok (enums.Body p (Some n) xs.0, xs.1))) (Ok (enums.Tag p n, r2)) (λ y1. and_so _ (enumrs_sound r2) (λ xs r3 d2. done (enum_body d0 d1 d2))) (λ n1. done (enum_tag d0 d1 n1)))) (λ n0. and_so _ (enumrs_sound r1) (λ xs r2 d1. done (enum_plain d0 d1))))
 
   pub spec_sound : (ts : List Token) → Sound (SpecAt names ts) (read_spec names below ts)
   unfolding read_spec
@@ -254,7 +263,7 @@ module _ (names : List (List ℕ)) (below : Readers) (h : Sounds names below) wh
 
   pub structs_sound : (ts : List Token) → Sound (StructAt names ts) (read_structs names below ts)
   unfolding read_structs read_struct_named
-  structs_sound ts = and_so _ (expect_sound (Word word.Struct) ts) (λ p r1 d0. either (next_is_name names r1) (read_struct_named names below p r1) (read_members names below r1 >>= (λ xs. Ok (structs.Body p (named p []) xs.0, xs.1))) (λ y0. and_so _ (take_sound (name_of names) r1) (λ n r2 d1. either (next_is (Mark mark.BraceOpen) r2) (read_members names below r2 >>= (λ xs. Ok (structs.Body p n xs.0, xs.1))) (Ok (structs.Tag p n, r2)) (λ y1. and_so _ (members_sound r2) (λ xs r3 d2. done (struct_body d0 d1 d2))) (λ n1. done (struct_tag d0 d1 n1)))) (λ n0. and_so _ (members_sound r1) (λ xs r2 d1. done (struct_plain d0 d1))))
+  structs_sound ts = and_so _ (expect_sound (Word word.Struct) ts) (λ p r1 d0. either (next_is_name names r1) (read_struct_named names below p r1) (read_members names below r1 >>= (λ xs. Ok (structs.Body p None xs.0, xs.1))) (λ y0. and_so _ (take_sound (name_of names) r1) (λ n r2 d1. either (next_is (Mark mark.BraceOpen) r2) (read_members names below r2 >>= (λ xs. Ok (structs.Body p (Some n) xs.0, xs.1))) (Ok (structs.Tag p n, r2)) (λ y1. and_so _ (members_sound r2) (λ xs r3 d2. done (struct_body d0 d1 d2))) (λ n1. done (struct_tag d0 d1 n1)))) (λ n0. and_so _ (members_sound r1) (λ xs r2 d1. done (struct_plain d0 d1))))
 
   pub opt_cond_sound : (ts : List Token) → Sound (OptCond names ts) (read_opt_cond names below ts)
   unfolding read_opt_cond

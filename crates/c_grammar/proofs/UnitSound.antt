@@ -1,5 +1,5 @@
 -- A unit that is read derives.
-use Rattle.std.proofs.Common.{◌≡◌, ℕ, List, [], ◌∷◌, ◌++◌, length, Ok, refl, sym, ap, subst}
+use Rattle.std.proofs.Common.{◌≡◌, ℕ, List, [], ◌∷◌, ◌++◌, length, Ok, refl, sym, subst}
 use Rattle.c_lex.specs.declared.token.Punct.TheVariants as mark
 use Rattle.c_lex.specs.declared.token.Token.{Token}
 use Rattle.c_grammar.specs.declared.tokens.Sign.TheVariants.{Mark}
@@ -8,7 +8,7 @@ use Rattle.c_ast.specs.declared.expr.Spec.{Spec}
 use Rattle.c_ast.specs.declared.expr.Declarator.{Declarator}
 use Rattle.c_ast.specs.declared.stmt.External.{External}
 use Rattle.c_ast.specs.declared.stmt.External.TheVariants as external
-use Rattle.c_grammar.specs.Tokens.{next_is, has, include_of}
+use Rattle.c_grammar.specs.Tokens.{next_is, has, include_of, with_names}
 use Rattle.c_grammar.specs.Grammar.{Attrs, SpecsAt, DeclaratorAt}
 use Rattle.c_grammar.specs.Units.{bare_decl, inits_decl, DeclAt, FunctionAt, a_function, UnitAt, unit_end, unit_include, unit_decl, unit_function, Derives}
 use Rattle.c_grammar.specs.Reading.{Readers, Unit_so_far, added, levels, read_after_attrs, read_after_specs, read_bare, read_declared, read_external, read_function_body, read_include, read_no_include, read_other_inits, read_part_of_unit, read_unit}
@@ -39,14 +39,10 @@ module _ (names : List (List ℕ)) (below : Readers) (h : Sounds names below) wh
 abbrev Whole : List Token → Unit_so_far → Unit_so_far → List Token → Type 0
 Whole ts u all rest = rest ≡ [] → UnitAt u.0 ts u.1 all.1
 
-unit_by : (u : Unit_so_far) (x : External) (ts r rest : List Token) (all : Unit_so_far) → ExternalAt u.0 ts x r → Whole r (u.0 ++ added x, u.1 ++ x ∷ []) all rest → Whole ts u all rest
+unit_by : (u : Unit_so_far) (x : External) (ts r rest : List Token) (all : Unit_so_far) → ExternalAt u.0 ts x r → Whole r (with_names u.0 (added x), u.1 ++ x ∷ []) all rest → Whole ts u all rest
 unit_by u (external.Include p h) ts r rest all d k e = absurd d
 unit_by u (external.Decl x) ts r rest all d k e = unit_decl d (k e)
-unit_by u (external.Function f) ts r rest all d k e = unit_function d (subst (λ names. UnitAt names r (u.1 ++ external.Function f ∷ []) all.1) (nothing_more u.0) (k e))
-  where
-    nothing_more : (names : List (List ℕ)) → names ++ [] ≡ names
-    nothing_more [] = refl
-    nothing_more (x ∷ xs) = ap (λ r. x ∷ r) (nothing_more xs)
+unit_by u (external.Function f) ts r rest all d k e = unit_function d (k e)
 
 part_sound_of : (n : ℕ) (u : Unit_so_far) (ts : List Token) → Sound (λ v r. (all : Unit_so_far) (rest : List Token) → Whole r v all rest → Whole ts u all rest) (read_part_of_unit n u ts)
 unfolding read_part_of_unit read_include read_no_include

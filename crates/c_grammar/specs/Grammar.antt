@@ -22,6 +22,7 @@ use Rattle.c_ast.specs.declared.expr.Star.TheVariants as star
 use Rattle.c_ast.specs.declared.expr.Expr.{Expr}
 use Rattle.c_ast.specs.declared.expr.Expr.TheVariants as tree
 use Rattle.c_ast.specs.declared.expr.Link.{Link}
+use Rattle.c_ast.specs.declared.expr.Next.{Next as After}
 use Rattle.c_ast.specs.declared.expr.Access.{Access}
 use Rattle.c_ast.specs.declared.expr.Access.TheVariants as access
 use Rattle.c_ast.specs.declared.expr.TypeName.{TypeName}
@@ -43,7 +44,7 @@ use Rattle.c_ast.specs.declared.expr.Param.{Param}
 use Rattle.c_ast.specs.declared.expr.Param.TheVariants as param
 use Rattle.c_ast.specs.declared.expr.Abstract.{Abstract}
 use Rattle.c_ast.specs.declared.expr.Abstract.TheVariants as abstracts
-use Rattle.c_grammar.specs.Tokens.{of, next_is, named, name_of, type_of, number_of, char_of, string_of, assign_op_of, un_op_of, step_op_of, spec_word_of, op_of, begins_spec, void_params, opens_group}
+use Rattle.c_grammar.specs.Tokens.{of, next_is, name_of, type_of, number_of, char_of, string_of, assign_op_of, un_op_of, step_op_of, spec_word_of, op_of, begins_spec, void_params, opens_group}
 
 -- a word or a mark, and its place
 pub data Next (s : Sign) : List Token → Place → List Token → Type 0 where
@@ -55,7 +56,7 @@ pub data Takes {A : Type 0} (f : Token → Option A) : List Token → A → List
 
 -- ---- trees of chains: a chain of one is its part
 
-abbrev pub commas : Expr → List Expr → Expr
+abbrev pub commas : Expr → List After → Expr
 commas a [] = a
 commas a (b ∷ bs) = tree.Comma a (b ∷ bs)
 
@@ -69,6 +70,10 @@ joined a (b ∷ bs) = tree.Binary a (b ∷ bs)
 
 abbrev pub link : Place × BinOp → Expr → Link
 link o b = record { place = o.0; op = o.1; operand = b }
+
+-- an expression after the comma at this place
+abbrev pub after_comma : Place → Expr → After
+after_comma k b = record { place = k; value = b }
 
 -- ---- attributes and stars
 
@@ -130,8 +135,14 @@ pub data OptComma : List Token → Bool → List Token → Type 0 where
 mutual
   -- expr = assign { "," assign }
   pub data ExprAt (names : List (List ℕ)) : List Token → Expr → List Token → Type 0 where
-    exprs : {ts r1 rest : List Token} {a : Expr} {more : List Expr} →
-        Assign names ts a r1 → MoreExprs names r1 [] more rest → ExprAt names ts (commas a more) rest
+    exprs : {ts r1 rest : List Token} {a : Expr} {more : List After} →
+        Assign names ts a r1 → MoreCommas names r1 [] more rest → ExprAt names ts (commas a more) rest
+
+  -- { "," assign } with the places of the commas, after those of so_far
+  pub data MoreCommas (names : List (List ℕ)) : List Token → List After → List After → List Token → Type 0 where
+    no_commas : {ts : List Token} {so_far : List After} → MoreCommas names ts so_far so_far ts
+    next_comma : {ts r1 r2 rest : List Token} {k : Place} {b : Expr} {so_far all : List After} →
+        Next (Mark mark.Comma) ts k r1 → Assign names r1 b r2 → MoreCommas names r2 (so_far ++ after_comma k b ∷ []) all rest → MoreCommas names ts so_far all rest
 
   -- { "," assign }, after those of so_far
   pub data MoreExprs (names : List (List ℕ)) : List Token → List Expr → List Expr → List Token → Type 0 where
@@ -254,11 +265,11 @@ mutual
   -- structs = "struct" [ NAME ] "{" member { member } "}" | "struct" NAME
   pub data StructAt (names : List (List ℕ)) : List Token → StructSpec → List Token → Type 0 where
     struct_body : {ts r1 r2 rest : List Token} {p : Place} {n : Name} {xs : List Member} →
-        Next (Word word.Struct) ts p r1 → Takes (name_of names) r1 n r2 → Members names r2 xs rest → StructAt names ts (structs.Body p n xs) rest
+        Next (Word word.Struct) ts p r1 → Takes (name_of names) r1 n r2 → Members names r2 xs rest → StructAt names ts (structs.Body p (Some n) xs) rest
     struct_tag : {ts r1 rest : List Token} {p : Place} {n : Name} →
         Next (Word word.Struct) ts p r1 → Takes (name_of names) r1 n rest → next_is (Mark mark.BraceOpen) rest ≡ false → StructAt names ts (structs.Tag p n) rest
     struct_plain : {ts r1 rest : List Token} {p : Place} {xs : List Member} →
-        Next (Word word.Struct) ts p r1 → Members names r1 xs rest → StructAt names ts (structs.Body p (named p []) xs) rest
+        Next (Word word.Struct) ts p r1 → Members names r1 xs rest → StructAt names ts (structs.Body p None xs) rest
 
   -- members = "{" member { member } "}"
   pub data Members (names : List (List ℕ)) : List Token → (List Member) → List Token → Type 0 where
@@ -285,11 +296,11 @@ mutual
   -- enums = "enum" [ NAME ] "{" enumr { "," enumr } [ "," ] "}" | "enum" NAME
   pub data EnumAt (names : List (List ℕ)) : List Token → EnumSpec → List Token → Type 0 where
     enum_body : {ts r1 r2 rest : List Token} {p : Place} {n : Name} {xs : List Enumerator} →
-        Next (Word word.Enum) ts p r1 → Takes (name_of names) r1 n r2 → Enumrs names r2 xs rest → EnumAt names ts (enums.Body p n xs) rest
+        Next (Word word.Enum) ts p r1 → Takes (name_of names) r1 n r2 → Enumrs names r2 xs rest → EnumAt names ts (enums.Body p (Some n) xs) rest
     enum_tag : {ts r1 rest : List Token} {p : Place} {n : Name} →
         Next (Word word.Enum) ts p r1 → Takes (name_of names) r1 n rest → next_is (Mark mark.BraceOpen) rest ≡ false → EnumAt names ts (enums.Tag p n) rest
     enum_plain : {ts r1 rest : List Token} {p : Place} {xs : List Enumerator} →
-        Next (Word word.Enum) ts p r1 → Enumrs names r1 xs rest → EnumAt names ts (enums.Body p (named p []) xs) rest
+        Next (Word word.Enum) ts p r1 → Enumrs names r1 xs rest → EnumAt names ts (enums.Body p None xs) rest
 
   -- enumrs = "{" enumr { "," enumr } [ "," ] "}"
   pub data Enumrs (names : List (List ℕ)) : List Token → (List Enumerator) → List Token → Type 0 where

@@ -6,6 +6,7 @@ use Rattle.std.specs.Prelude.{ℕ, zero, suc, List, length, Option, Some, None, 
 use Rattle.c_lex.specs.declared.token.Token.{Token}
 use Rattle.c_ast.specs.declared.expr.Expr.{Expr}
 use Rattle.c_ast.specs.declared.expr.Link.{Link}
+use Rattle.c_ast.specs.declared.expr.Next.{Next as After}
 use Rattle.c_ast.specs.declared.expr.Access.{Access}
 use Rattle.c_ast.specs.declared.expr.TypeName.{TypeName}
 use Rattle.c_ast.specs.declared.expr.Spec.{Spec}
@@ -30,7 +31,7 @@ use Rattle.c_ast.specs.declared.stmt.Stmt.{Stmt}
 use Rattle.c_ast.specs.declared.stmt.Function.{Function}
 use Rattle.c_ast.specs.declared.stmt.External.{External}
 use Rattle.c_grammar.specs.Tokens.{begins_abstract}
-use Rattle.c_grammar.specs.Grammar.{exprs, ExprAt, no_expr, next_expr, MoreExprs, assigned, only_cond, Assign, chosen, only_binary, Cond, converted, only_unary, Cast, type_name, TypeNameAt, counted_unary, prefixed, only_postfix, Unary, step_before, a_sizeof, Stepped, sizeof_type, sizeof_expr, SizeofAt, postfixed, Postfix, no_access, next_access, Accesses, indexed, called, member_of, member_behind, step_after, AccessAt, some_args, no_args, Args, a_name, a_number, a_char, a_string, grouped, Primary, some_specs, SpecsAt, no_spec, next_spec, MoreSpecs, a_word, a_struct, an_enum, an_attr, a_type, SpecAt, struct_body, struct_tag, struct_plain, StructAt, braced_members, Members, no_member, next_member, MoreMembers, a_member, MemberAt, no_declarator, next_declarator, MoreDeclarators, enum_body, enum_tag, enum_plain, EnumAt, braced_enumrs, Enumrs, no_enumr, next_enumr, MoreEnumrs, enumr_value, enumr_plain, EnumrAt, plain_declarator, group_declarator, DeclaratorAt, no_suffix, next_suffix, Suffixes, array_suffix, params_suffix, SuffixAt, a_cond, no_cond, OptCond, void_only, some_params, no_params, ParamsAt, no_param, next_param, MoreParams, group_abstract, plain_abstract, AbstractAt, Binary, MoreOps, only_cast, binaries, no_op, next_op, ParamAt, named_param, unnamed_param}
+use Rattle.c_grammar.specs.Grammar.{exprs, ExprAt, no_commas, next_comma, MoreCommas, no_expr, next_expr, MoreExprs, assigned, only_cond, Assign, chosen, only_binary, Cond, converted, only_unary, Cast, type_name, TypeNameAt, counted_unary, prefixed, only_postfix, Unary, step_before, a_sizeof, Stepped, sizeof_type, sizeof_expr, SizeofAt, postfixed, Postfix, no_access, next_access, Accesses, indexed, called, member_of, member_behind, step_after, AccessAt, some_args, no_args, Args, a_name, a_number, a_char, a_string, grouped, Primary, some_specs, SpecsAt, no_spec, next_spec, MoreSpecs, a_word, a_struct, an_enum, an_attr, a_type, SpecAt, struct_body, struct_tag, struct_plain, StructAt, braced_members, Members, no_member, next_member, MoreMembers, a_member, MemberAt, no_declarator, next_declarator, MoreDeclarators, enum_body, enum_tag, enum_plain, EnumAt, braced_enumrs, Enumrs, no_enumr, next_enumr, MoreEnumrs, enumr_value, enumr_plain, EnumrAt, plain_declarator, group_declarator, DeclaratorAt, no_suffix, next_suffix, Suffixes, array_suffix, params_suffix, SuffixAt, a_cond, no_cond, OptCond, void_only, some_params, no_params, ParamsAt, no_param, next_param, MoreParams, group_abstract, plain_abstract, AbstractAt, Binary, MoreOps, only_cast, binaries, no_op, next_op, ParamAt, named_param, unnamed_param}
 use Rattle.c_grammar.specs.Units.{braced_initial, assign_initial, InitialAt, no_initial, next_initial, MoreInitials, init_value, init_plain, InitAt, no_init, next_init, MoreInits, bare_decl, inits_decl, DeclAt, an_expr, without_expr, OptExpr, first_decl, first_expr, FirstAt, case_label, default_label, LabelAt, braces, BlockAt, no_item, next_item, Items, decl_item, stmt_item, ItemAt, block_stmt, empty_stmt, return_stmt, break_stmt, continue_stmt, if_else, if_only, while_stmt, do_stmt, for_stmt, switch_stmt, expr_stmt, StmtAt, no_part, next_part, Parts, label_part, decl_part, stmt_part, PartAt, FunctionAt, a_function, UnitAt, unit_end, unit_include, unit_decl, unit_function}
 
 abbrev pub earlier : Option ℕ → Option ℕ → Option ℕ
@@ -39,7 +40,11 @@ earlier (Some a) b = Some a
 
 unfoldable mutual
   pub deep_expr : {names : List (List ℕ)} {ts rest : List Token} {a : Expr} → ExprAt names ts a rest → ℕ → Option ℕ
-  deep_expr (exprs d0 d1) n = earlier (deep_assign d0 n) (deep_more_exprs d1 n)
+  deep_expr (exprs d0 d1) n = earlier (deep_assign d0 n) (deep_more_commas d1 n)
+
+  pub deep_more_commas : {names : List (List ℕ)} {ts rest : List Token} {so_far all : List After} → MoreCommas names ts so_far all rest → ℕ → Option ℕ
+  deep_more_commas no_commas n = None
+  deep_more_commas (next_comma _ d1 m) n = earlier (deep_assign d1 n) (deep_more_commas m n)
 
   pub deep_more_exprs : {names : List (List ℕ)} {ts rest : List Token} {so_far all : List Expr} → MoreExprs names ts so_far all rest → ℕ → Option ℕ
   deep_more_exprs no_expr n = None

@@ -15,6 +15,7 @@ use Rattle.c_ast.specs.declared.expr.Star.TheVariants as star
 use Rattle.c_ast.specs.declared.expr.Expr.{Expr}
 use Rattle.c_ast.specs.declared.expr.Expr.TheVariants as tree
 use Rattle.c_ast.specs.declared.expr.Link.{Link}
+use Rattle.c_ast.specs.declared.expr.Next.{Next as After}
 use Rattle.c_ast.specs.declared.expr.Access.{Access}
 use Rattle.c_ast.specs.declared.expr.Access.TheVariants as access
 use Rattle.c_ast.specs.declared.expr.TypeName.{TypeName}
@@ -53,8 +54,8 @@ use Rattle.c_ast.specs.declared.stmt.Stmt.{Stmt}
 use Rattle.c_ast.specs.declared.stmt.Stmt.TheVariants as stmt
 use Rattle.c_ast.specs.declared.stmt.External.{External}
 use Rattle.c_ast.specs.declared.stmt.External.TheVariants as external
-use Rattle.c_grammar.specs.Tokens.{◌>>=◌, Read, fault, deep, is, after, next_is, expect, has, take, named, next_is_name, name_of, type_of, number_of, char_of, string_of, include_of, assign_op_of, un_op_of, step_op_of, spec_word_of, op_of, begins_spec, begins_expr, begins_step, begins_access, begins_suffix, begins_star, begins_label, type_follows, comma_more, void_params, opens_group, begins_declarator, begins_abstract, begins_either, begins_initial, begins_stmt}
-use Rattle.c_grammar.specs.Grammar.{commas, accessed, joined, link}
+use Rattle.c_grammar.specs.Tokens.{◌>>=◌, Read, fault, deep, is, after, next_is, expect, has, take, with_names, next_is_name, name_of, type_of, number_of, char_of, string_of, include_of, assign_op_of, un_op_of, step_op_of, spec_word_of, op_of, begins_spec, begins_expr, begins_step, begins_access, begins_suffix, begins_star, begins_label, type_follows, comma_more, void_params, opens_group, begins_declarator, begins_abstract, begins_either, begins_initial, begins_stmt}
+use Rattle.c_grammar.specs.Grammar.{after_comma, commas, accessed, joined, link}
 use Rattle.c_grammar.specs.Units.{declared, header_names}
 use Rattle.c_grammar.specs.declared.either.Either.{Either}
 use Rattle.c_grammar.specs.declared.either.Either.TheVariants as either
@@ -165,10 +166,19 @@ read_expr_item names below so_far ts = do
 unfoldable pub read_more_exprs : List (List ℕ) → Readers → List Expr → List Token → Read (List Expr)
 read_more_exprs names below so_far ts = repeat (next_is (Mark mark.Comma)) (read_expr_item names below) (length ts) so_far ts
 
+unfoldable pub read_comma_item : List (List ℕ) → Readers → List After → List Token → Read (List After)
+read_comma_item names below so_far ts = do
+  k ← expect (Mark mark.Comma) ts
+  b ← below.assign k.1
+  Ok (so_far ++ after_comma k.0 b.0 ∷ [], b.1)
+
+unfoldable pub read_more_commas : List (List ℕ) → Readers → List After → List Token → Read (List After)
+read_more_commas names below so_far ts = repeat (next_is (Mark mark.Comma)) (read_comma_item names below) (length ts) so_far ts
+
 unfoldable pub read_expr : List (List ℕ) → Readers → List Token → Read Expr
 read_expr names below ts = do
   a ← below.assign ts
-  more ← read_more_exprs names below [] a.1
+  more ← read_more_commas names below [] a.1
   Ok (commas a.0 more.0, more.1)
 
 unfoldable pub read_assigned : List (List ℕ) → Readers → Expr → List Token → Read Expr
@@ -244,12 +254,12 @@ read_enumrs names below ts = do
 unfoldable pub read_enum_named : List (List ℕ) → Readers → Place → List Token → Read EnumSpec
 read_enum_named names below p ts = do
   n ← take (name_of names) ts
-  if next_is (Mark mark.BraceOpen) n.1 then (read_enumrs names below n.1 >>= (λ xs. Ok (enums.Body p n.0 xs.0, xs.1))) else Ok (enums.Tag p n.0, n.1)
+  if next_is (Mark mark.BraceOpen) n.1 then (read_enumrs names below n.1 >>= (λ xs. Ok (enums.Body p (Some n.0) xs.0, xs.1))) else Ok (enums.Tag p n.0, n.1)
 
 unfoldable pub read_enums : List (List ℕ) → Readers → List Token → Read EnumSpec
 read_enums names below ts = do
   p ← expect (Word word.Enum) ts
-  if next_is_name names p.1 then read_enum_named names below p.0 p.1 else read_enumrs names below p.1 >>= (λ xs. Ok (enums.Body p.0 (named p.0 []) xs.0, xs.1))
+  if next_is_name names p.1 then read_enum_named names below p.0 p.1 else read_enumrs names below p.1 >>= (λ xs. Ok (enums.Body p.0 None xs.0, xs.1))
 
 unfoldable pub read_spec : List (List ℕ) → Readers → List Token → Read Spec
 read_spec names below ts =
@@ -428,12 +438,12 @@ read_members names below ts = do
 unfoldable pub read_struct_named : List (List ℕ) → Readers → Place → List Token → Read StructSpec
 read_struct_named names below p ts = do
   n ← take (name_of names) ts
-  if next_is (Mark mark.BraceOpen) n.1 then (read_members names below n.1 >>= (λ xs. Ok (structs.Body p n.0 xs.0, xs.1))) else Ok (structs.Tag p n.0, n.1)
+  if next_is (Mark mark.BraceOpen) n.1 then (read_members names below n.1 >>= (λ xs. Ok (structs.Body p (Some n.0) xs.0, xs.1))) else Ok (structs.Tag p n.0, n.1)
 
 unfoldable pub read_structs : List (List ℕ) → Readers → List Token → Read StructSpec
 read_structs names below ts = do
   p ← expect (Word word.Struct) ts
-  if next_is_name names p.1 then read_struct_named names below p.0 p.1 else read_members names below p.1 >>= (λ xs. Ok (structs.Body p.0 (named p.0 []) xs.0, xs.1))
+  if next_is_name names p.1 then read_struct_named names below p.0 p.1 else read_members names below p.1 >>= (λ xs. Ok (structs.Body p.0 None xs.0, xs.1))
 
 unfoldable pub read_opt_cond : List (List ℕ) → Readers → List Token → Read (Option Expr)
 read_opt_cond names below ts =
@@ -738,7 +748,7 @@ read_for_stmt names below ts = do
   x ← read_opt_expr names below c.1
   c2 ← expect (Mark mark.ParenClose) x.1
   a ← below.stmts c2.1
-  Ok (stmt.For p.0 f.0 t.0 x.0 a.0, a.1)
+  Ok (stmt.For p.0 (record { first = f.0; test = t.0; step = x.0 }) a.0, a.1)
 
 unfoldable pub read_part : List (List ℕ) → Readers → List Token → Read Part
 read_part names below ts =
@@ -865,7 +875,7 @@ read_external names below ts = do
 unfoldable pub read_include : Unit_so_far → List Token → Read Unit_so_far
 read_include u ts = do
   h ← take include_of ts
-  Ok ((u.0 ++ header_names h.0.1, u.1 ++ external.Include h.0.0 h.0.1 ∷ []), h.1)
+  Ok ((with_names u.0 (header_names h.0.1), u.1 ++ external.Include h.0.0 h.0.1 ∷ []), h.1)
 
 -- the names that a part of file scope adds
 abbrev pub added : External → List (List ℕ)
@@ -875,7 +885,7 @@ added _ = []
 unfoldable pub read_no_include : ℕ → Unit_so_far → List Token → Read Unit_so_far
 read_no_include n u ts = do
   x ← read_external u.0 (levels u.0 n) ts
-  Ok ((u.0 ++ added x.0, u.1 ++ x.0 ∷ []), x.1)
+  Ok ((with_names u.0 (added x.0), u.1 ++ x.0 ∷ []), x.1)
 
 unfoldable pub read_part_of_unit : ℕ → Unit_so_far → List Token → Read Unit_so_far
 read_part_of_unit n u ts = if has include_of ts then read_include u ts else read_no_include n u ts

@@ -1,5 +1,5 @@
 -- The next tokens, and what they begin.
-use Rattle.std.specs.Prelude.{◌≡◌, ℕ, Bool, true, false, not, ◌&&◌, ◌||◌, List, [], ◌∷◌, length, Option, Some, None, Result, Ok, Err, nat_eq, if◌then◌else◌}
+use Rattle.std.specs.Prelude.{◌≡◌, ℕ, Bool, true, false, not, ◌&&◌, ◌||◌, List, [], ◌∷◌, ◌++◌, length, Option, Some, None, Result, Ok, Err, nat_eq, if◌then◌else◌}
 use Rattle.std.specs.List.{list_any}
 use Rattle.std.specs.Option.{is_some}
 use Rattle.std.specs.Str.{bytes_eq}
@@ -196,7 +196,15 @@ take f (k ∷ r) = or_fault (k ∷ r) (f k) r
 
 -- among the typedef names
 abbrev pub known : List (List ℕ) → List ℕ → Bool
-known names x = list_any (λ y. bytes_eq y x) names
+known names x = list_any (bytes_eq x) names
+
+-- the names with one more, and with more of them; each is kept once, where it was first declared
+unfoldable pub with_name : List (List ℕ) → List ℕ → List (List ℕ)
+with_name names x = if known names x then names else names ++ x ∷ []
+
+abbrev pub with_names : List (List ℕ) → List (List ℕ) → List (List ℕ)
+with_names names [] = names
+with_names names (x ∷ xs) = with_names (with_name names x) xs
 
 abbrev pub named : Place → List ℕ → Name
 named p x = record { place = p; text = x }
@@ -229,7 +237,7 @@ is_type names (kind.Name x) = known names x
 is_type names _ = false
 
 abbrev pub number_by : Place → Kind → Option Expr
-number_by p (kind.Number v u l) = Some (tree.Number p v u l)
+number_by p (kind.Number v u l) = Some (tree.Number p v (record { unsigned = u; long = l }))
 number_by p _ = None
 
 -- NUMBER

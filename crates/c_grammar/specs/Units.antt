@@ -28,7 +28,7 @@ use Rattle.c_ast.specs.declared.stmt.Stmt.TheVariants as stmt
 use Rattle.c_ast.specs.declared.stmt.Function.{Function}
 use Rattle.c_ast.specs.declared.stmt.External.{External}
 use Rattle.c_ast.specs.declared.stmt.External.TheVariants as external
-use Rattle.c_grammar.specs.Tokens.{next_is, include_of}
+use Rattle.c_grammar.specs.Tokens.{next_is, include_of, with_names}
 use Rattle.c_grammar.specs.Grammar.{Attrs, OptComma, ExprAt, Assign, Cond, SpecsAt, DeclaratorAt, Next, Takes}
 use Rattle.std.specs.Prelude.{map}
 use Rattle.std.specs.List.{list_any}
@@ -126,7 +126,7 @@ mutual
     do_stmt : {ts r1 r2 r3 r4 r5 r6 rest : List Token} {p w o c c2 : Place} {a : Stmt} {e : Expr} →
         Next (Word word.Do) ts p r1 → StmtAt names r1 a r2 → Next (Word word.While) r2 w r3 → Next (Mark mark.ParenOpen) r3 o r4 → ExprAt names r4 e r5 → Next (Mark mark.ParenClose) r5 c r6 → Next (Mark mark.Semicolon) r6 c2 rest → StmtAt names ts (stmt.DoWhile p a e) rest
     for_stmt : {ts r1 r2 r3 r4 r5 r6 r7 rest : List Token} {p o c c2 : Place} {f : First} {t x : Option Expr} {a : Stmt} →
-        Next (Word word.For) ts p r1 → Next (Mark mark.ParenOpen) r1 o r2 → FirstAt names r2 f r3 → OptExpr names r3 t r4 → Next (Mark mark.Semicolon) r4 c r5 → OptExpr names r5 x r6 → Next (Mark mark.ParenClose) r6 c2 r7 → StmtAt names r7 a rest → StmtAt names ts (stmt.For p f t x a) rest
+        Next (Word word.For) ts p r1 → Next (Mark mark.ParenOpen) r1 o r2 → FirstAt names r2 f r3 → OptExpr names r3 t r4 → Next (Mark mark.Semicolon) r4 c r5 → OptExpr names r5 x r6 → Next (Mark mark.ParenClose) r6 c2 r7 → StmtAt names r7 a rest → StmtAt names ts (stmt.For p (record { first = f; test = t; step = x }) a) rest
     switch_stmt : {ts r1 r2 r3 r4 r5 r6 rest : List Token} {p o c o2 c2 : Place} {e : Expr} {xs : List Part} →
         Next (Word word.Switch) ts p r1 → Next (Mark mark.ParenOpen) r1 o r2 → ExprAt names r2 e r3 → Next (Mark mark.ParenClose) r3 c r4 → Next (Mark mark.BraceOpen) r4 o2 r5 → Parts names r5 [] xs r6 → Next (Mark mark.BraceClose) r6 c2 rest → StmtAt names ts (stmt.Switch p e xs) rest
     expr_stmt : {ts r1 rest : List Token} {e : Expr} {c : Place} →
@@ -173,9 +173,9 @@ header_names header.ArmCmse = codes "size_t" ∷ []
 pub data UnitAt : List (List ℕ) → List Token → List External → List External → Type 0 where
   unit_end : {names : List (List ℕ)} {so_far : List External} → UnitAt names [] so_far so_far
   unit_include : {names : List (List ℕ)} {ts rest : List Token} {h : Place × Header} {so_far all : List External} →
-      Takes include_of ts h rest → UnitAt (names ++ header_names h.1) rest (so_far ++ external.Include h.0 h.1 ∷ []) all → UnitAt names ts so_far all
+      Takes include_of ts h rest → UnitAt (with_names names (header_names h.1)) rest (so_far ++ external.Include h.0 h.1 ∷ []) all → UnitAt names ts so_far all
   unit_decl : {names : List (List ℕ)} {ts rest : List Token} {d : Decl} {so_far all : List External} →
-      DeclAt names ts d rest → UnitAt (names ++ declared d) rest (so_far ++ external.Decl d ∷ []) all → UnitAt names ts so_far all
+      DeclAt names ts d rest → UnitAt (with_names names (declared d)) rest (so_far ++ external.Decl d ∷ []) all → UnitAt names ts so_far all
   unit_function : {names : List (List ℕ)} {ts rest : List Token} {f : Function} {so_far all : List External} →
       FunctionAt names ts f rest → UnitAt names rest (so_far ++ external.Function f ∷ []) all → UnitAt names ts so_far all
 

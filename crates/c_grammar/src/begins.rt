@@ -3,12 +3,12 @@
 ghost use Rattle.std.specs.Prelude.{◌≡◌};
 ghost use Rattle.c_grammar.specs.Tokens as spec;
 
+use crate::names::TypeNames;
 use crate::operators::{spec_word_of, step_op_of, un_op_of};
 use crate::tokens::{Sign, is, is_name, is_type, next_is};
 use c_lex::token::{Keyword, Kind, Punct, Token};
-use cm_base::Text;
 
-fn spec_token(names: &[Text], token: &Token) -> bool
+fn spec_token(names: &TypeNames, token: &Token) -> bool
     ensures { result ≡ spec.spec_token names.now token.now }
 {
     spec_word_of(token).is_some()
@@ -19,7 +19,7 @@ fn spec_token(names: &[Text], token: &Token) -> bool
 }
 
 /// Whether a specifier stands next.
-pub fn begins_spec(names: &[Text], ts: &[Token]) -> bool
+pub fn begins_spec(names: &TypeNames, ts: &[Token]) -> bool
     ensures { result ≡ spec.begins_spec names.now ts.now }
 {
     if ts.is_empty() {
@@ -37,7 +37,7 @@ fn is_constant(kind: &Kind) -> bool
     }
 }
 
-fn expr_token(names: &[Text], token: &Token) -> bool
+fn expr_token(names: &TypeNames, token: &Token) -> bool
     ensures { result ≡ spec.expr_token names.now token.now }
 {
     is_name(names, &token.kind)
@@ -49,7 +49,7 @@ fn expr_token(names: &[Text], token: &Token) -> bool
 }
 
 /// Whether what begins an expression stands next.
-pub fn begins_expr(names: &[Text], ts: &[Token]) -> bool
+pub fn begins_expr(names: &TypeNames, ts: &[Token]) -> bool
     ensures { result ≡ spec.begins_expr names.now ts.now }
 {
     if ts.is_empty() {
@@ -165,7 +165,7 @@ pub fn begins_abstract(ts: &[Token]) -> bool
 }
 
 /// Whether what begins a declarator with or without a name stands next.
-pub fn begins_either(names: &[Text], ts: &[Token]) -> bool
+pub fn begins_either(names: &TypeNames, ts: &[Token]) -> bool
     ensures { result ≡ spec.begins_either names.now ts.now }
 {
     if ts.is_empty() {
@@ -174,7 +174,7 @@ pub fn begins_either(names: &[Text], ts: &[Token]) -> bool
     group_token(&ts[0]) || is_name(names, &ts[0].kind)
 }
 
-fn declarator_token(names: &[Text], token: &Token) -> bool
+fn declarator_token(names: &TypeNames, token: &Token) -> bool
     ensures { result ≡ spec.declarator_token names.now token.now }
 {
     is_name(names, &token.kind)
@@ -184,7 +184,7 @@ fn declarator_token(names: &[Text], token: &Token) -> bool
 }
 
 /// Whether what begins a declarator stands next.
-pub fn begins_declarator(names: &[Text], ts: &[Token]) -> bool
+pub fn begins_declarator(names: &TypeNames, ts: &[Token]) -> bool
     ensures { result ≡ spec.begins_declarator names.now ts.now }
 {
     if ts.is_empty() {
@@ -193,14 +193,14 @@ pub fn begins_declarator(names: &[Text], ts: &[Token]) -> bool
     declarator_token(names, &ts[0])
 }
 
-fn initial_token(names: &[Text], token: &Token) -> bool
+fn initial_token(names: &TypeNames, token: &Token) -> bool
     ensures { result ≡ spec.initial_token names.now token.now }
 {
     is(&token.kind, Sign::Mark(Punct::BraceOpen)) || expr_token(names, token)
 }
 
 /// Whether what begins an initialiser stands next.
-pub fn begins_initial(names: &[Text], ts: &[Token]) -> bool
+pub fn begins_initial(names: &TypeNames, ts: &[Token]) -> bool
     ensures { result ≡ spec.begins_initial names.now ts.now }
 {
     if ts.is_empty() {
@@ -234,7 +234,7 @@ fn is_stmt_word(kind: &Kind) -> bool
     }
 }
 
-fn stmt_token(names: &[Text], token: &Token) -> bool
+fn stmt_token(names: &TypeNames, token: &Token) -> bool
     ensures { result ≡ spec.stmt_token names.now token.now }
 {
     is(&token.kind, Sign::Mark(Punct::BraceOpen))
@@ -244,7 +244,7 @@ fn stmt_token(names: &[Text], token: &Token) -> bool
 }
 
 /// Whether what begins a statement stands next.
-pub fn begins_stmt(names: &[Text], ts: &[Token]) -> bool
+pub fn begins_stmt(names: &TypeNames, ts: &[Token]) -> bool
     ensures { result ≡ spec.begins_stmt names.now ts.now }
 {
     if ts.is_empty() {
@@ -254,7 +254,7 @@ pub fn begins_stmt(names: &[Text], ts: &[Token]) -> bool
 }
 
 /// Whether `(` and a specifier stands next.
-pub fn type_follows(names: &[Text], ts: &[Token]) -> bool
+pub fn type_follows(names: &TypeNames, ts: &[Token]) -> bool
     ensures { result ≡ spec.type_follows names.now ts.now }
 {
     next_is(ts, Sign::Mark(Punct::ParenOpen)) && begins_spec(names, &ts[1..])
@@ -282,7 +282,7 @@ pub fn opens_group(ts: &[Token]) -> bool
 }
 
 /// Whether `(` that groups a declarator stands next.
-pub fn opens_either(names: &[Text], ts: &[Token]) -> bool
+pub fn opens_either(names: &TypeNames, ts: &[Token]) -> bool
     ensures { result ≡ spec.opens_either names.now ts.now }
 {
     next_is(ts, Sign::Mark(Punct::ParenOpen)) && begins_either(names, &ts[1..])

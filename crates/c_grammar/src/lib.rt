@@ -4,5 +4,6 @@
 pub mod begins;
 pub mod either;
 pub mod laws;
+pub mod names;
 pub mod operators;
 pub mod tokens;

@@ -4,9 +4,10 @@ ghost use Rattle.std.specs.Prelude.{◌≡◌};
 ghost use Rattle.c_grammar.specs.Tokens as spec;
 ghost use Rattle.c_grammar.specs.declared.tokens.ParseError.TheVariants as errors;
 
-use c_ast::{Expr, Name};
+use crate::names::TypeNames;
+use c_ast::{Expr, Name, NumberType};
 use c_lex::token::{Header, Keyword, Kind, Punct, Token};
-use cm_base::{Bytes, NoMemory, Place, Text};
+use cm_base::{Bytes, NoMemory, Place};
 use std::alloc::{AllocError, Global};
 
 /// A token without a value: a word or a mark.
@@ -198,33 +199,26 @@ pub fn expect(ts: &[Token], sign: Sign) -> Read<Place>
     Ok((ts[0].place, &ts[1..]))
 }
 
-/// Whether the typedef names have this one.
-pub fn known(names: &[Text], text: &[u8]) -> bool
-    ensures { result ≡ spec.known names.now text.now }
-{
-    names.iter().any(|name| name.as_slice() == text)
-}
-
-pub fn is_name(names: &[Text], kind: &Kind) -> bool
+pub fn is_name(names: &TypeNames, kind: &Kind) -> bool
     ensures { result ≡ spec.is_name names.now kind.now }
 {
     match kind {
-        Kind::Name(text) => !known(names, text.as_slice()),
+        Kind::Name(text) => !names.has(text.as_slice()),
         _ => false,
     }
 }
 
-pub fn is_type(names: &[Text], kind: &Kind) -> bool
+pub fn is_type(names: &TypeNames, kind: &Kind) -> bool
     ensures { result ≡ spec.is_type names.now kind.now }
 {
     match kind {
-        Kind::Name(text) => known(names, text.as_slice()),
+        Kind::Name(text) => names.has(text.as_slice()),
         _ => false,
     }
 }
 
 /// The NAME that stands next.
-pub fn take_name<'a>(alloc: Global, names: &[Text], ts: &'a [Token]) -> Read<'a, Name>
+pub fn take_name<'a>(alloc: Global, names: &TypeNames, ts: &'a [Token]) -> Read<'a, Name>
     ensures { spec.Gives (λ x. (x.0, x.1.now)) result (spec.take (spec.name_of names.now) ts.now) }
 {
     if ts.is_empty() {
@@ -232,13 +226,13 @@ pub fn take_name<'a>(alloc: Global, names: &[Text], ts: &'a [Token]) -> Read<'a,
     }
     match &ts[0].kind {
         Kind::Name(text) => {
-            if known(names, text.as_slice()) {
+            if names.has(text.as_slice()) {
                 return Err(fault_at(ts));
             }
             Ok((
                 Name {
                     place: ts[0].place,
-                    text: text.try_clone(alloc)?,
+                    text: text.copy(alloc)?,
                 },
                 &ts[1..],
             ))
@@ -248,7 +242,7 @@ pub fn take_name<'a>(alloc: Global, names: &[Text], ts: &'a [Token]) -> Read<'a,
 }
 
 /// The TYPENAME that stands next.
-pub fn take_type<'a>(alloc: Global, names: &[Text], ts: &'a [Token]) -> Read<'a, Name>
+pub fn take_type<'a>(alloc: Global, names: &TypeNames, ts: &'a [Token]) -> Read<'a, Name>
     ensures { spec.Gives (λ x. (x.0, x.1.now)) result (spec.take (spec.type_of names.now) ts.now) }
 {
     if ts.is_empty() {
@@ -256,13 +250,13 @@ pub fn take_type<'a>(alloc: Global, names: &[Text], ts: &'a [Token]) -> Read<'a,
     }
     match &ts[0].kind {
         Kind::Name(text) => {
-            if !known(names, text.as_slice()) {
+            if !names.has(text.as_slice()) {
                 return Err(fault_at(ts));
             }
             Ok((
                 Name {
                     place: ts[0].place,
-                    text: text.try_clone(alloc)?,
+                    text: text.copy(alloc)?,
                 },
                 &ts[1..],
             ))
@@ -285,7 +279,14 @@ pub fn take_number(ts: &[Token]) -> Read<Expr>
             long,
         } => {
             Ok((
-                Expr::Number(ts[0].place, *value, *unsigned, *long),
+                Expr::Number(
+                    ts[0].place,
+                    *value,
+                    NumberType {
+                        unsigned: *unsigned,
+                        long: *long,
+                    },
+                ),
                 &ts[1..],
             ))
         }
@@ -332,7 +333,7 @@ pub fn take_include(ts: &[Token]) -> Read<(Place, Header)>
     }
 }
 
-pub fn next_is_name(names: &[Text], ts: &[Token]) -> bool
+pub fn next_is_name(names: &TypeNames, ts: &[Token]) -> bool
     ensures { result ≡ spec.next_is_name names.now ts.now }
 {
     if ts.is_empty() {

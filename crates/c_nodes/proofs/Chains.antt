@@ -3,13 +3,14 @@ use Rattle.std.proofs.Common.{◌≡◌, ◌≢◌, List, [], ◌∷◌, refl}
 use Rattle.c_ast.specs.declared.expr.Expr.{Expr}
 use Rattle.c_ast.specs.declared.expr.Expr.TheVariants as tree
 use Rattle.c_ast.specs.declared.expr.Link.{Link}
+use Rattle.c_ast.specs.declared.expr.Next.{Next as After}
 use Rattle.c_ast.specs.declared.expr.Access.{Access}
 use Rattle.c_grammar.specs.Grammar.{commas, accessed, joined}
 
-pub commas_none : (a : Expr) (more : List Expr) → more ≡ [] → commas a more ≡ a
+pub commas_none : (a : Expr) (more : List After) → more ≡ [] → commas a more ≡ a
 commas_none a more e = rw e refl
 
-pub commas_some : (a : Expr) (more : List Expr) → more ≢ [] → commas a more ≡ tree.Comma a more
+pub commas_some : (a : Expr) (more : List After) → more ≢ [] → commas a more ≡ tree.Comma a more
 commas_some a [] ne = absurd (ne refl)
 commas_some a (b ∷ bs) ne = refl
 

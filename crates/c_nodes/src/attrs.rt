@@ -6,14 +6,15 @@ ghost use Rattle.c_grammar.specs.Reading as spec;
 use crate::nodes::alone;
 use c_ast::{Attr, Name, One, Star};
 use c_grammar::begins::begins_star;
+use c_grammar::names::TypeNames;
 use c_grammar::tokens::{Read, Sign, expect, next_is, take_name, take_string};
 use c_lex::token::{Keyword, Punct, Token};
-use cm_base::{List, Text};
+use cm_base::List;
 use std::alloc::Global;
 
 /// NAME "(" STRING ")", after its NAME.
 #[tactic(auto, unfolding(c_grammar::specs::Reading::read_one_with))]
-fn one_with<'a>(alloc: Global, names: &[Text], name: Name, ts: &'a [Token]) -> Read<'a, One>
+fn one_with<'a>(alloc: Global, names: &TypeNames, name: Name, ts: &'a [Token]) -> Read<'a, One>
     ensures { Gives (λ x. (x.0, x.1.now)) result (spec.read_one_with names.now name ts.now) }
 {
     let (_open, rest) = expect(ts, Sign::Mark(Punct::ParenOpen))?;
@@ -24,7 +25,7 @@ fn one_with<'a>(alloc: Global, names: &[Text], name: Name, ts: &'a [Token]) -> R
 
 /// one = NAME [ "(" STRING ")" ]
 #[tactic(auto, unfolding(c_grammar::specs::Reading::read_one))]
-fn one<'a>(alloc: Global, names: &[Text], ts: &'a [Token]) -> Read<'a, One>
+fn one<'a>(alloc: Global, names: &TypeNames, ts: &'a [Token]) -> Read<'a, One>
     ensures { Gives (λ x. (x.0, x.1.now)) result (spec.read_one names.now ts.now) }
 {
     let (name, rest) = take_name(alloc, names, ts)?;
@@ -38,7 +39,7 @@ fn one<'a>(alloc: Global, names: &[Text], ts: &'a [Token]) -> Read<'a, One>
 #[tactic(auto, unfolding(c_grammar::specs::Reading::read_one_item))]
 fn one_item<'a>(
     alloc: Global,
-    names: &[Text],
+    names: &TypeNames,
     so_far: List<One>,
     ts: &'a [Token],
 ) -> Read<'a, List<One>>
@@ -55,7 +56,7 @@ fn one_item<'a>(
 #[tactic(auto, using(crate::proofs::LevelLaws::repeat_rules), unfolding(c_grammar::specs::Reading::read_more_ones))]
 fn more_ones<'a>(
     alloc: Global,
-    names: &[Text],
+    names: &TypeNames,
     so_far: List<One>,
     ts: &'a [Token],
 ) -> Read<'a, List<One>>
@@ -76,7 +77,7 @@ fn more_ones<'a>(
 
 /// attr = "__attribute__" "(" "(" one { "," one } ")" ")"
 #[tactic(auto, unfolding(c_grammar::specs::Reading::read_attr))]
-pub fn attr<'a>(alloc: Global, names: &[Text], ts: &'a [Token]) -> Read<'a, Attr>
+pub fn attr<'a>(alloc: Global, names: &TypeNames, ts: &'a [Token]) -> Read<'a, Attr>
     ensures { Gives (λ x. (x.0, x.1.now)) result (spec.read_attr names.now ts.now) }
 {
     let (place, rest) = expect(ts, Sign::Word(Keyword::Attribute))?;
@@ -93,7 +94,7 @@ pub fn attr<'a>(alloc: Global, names: &[Text], ts: &'a [Token]) -> Read<'a, Attr
 #[tactic(auto, unfolding(c_grammar::specs::Reading::read_attr_item))]
 fn attr_item<'a>(
     alloc: Global,
-    names: &[Text],
+    names: &TypeNames,
     so_far: List<Attr>,
     ts: &'a [Token],
 ) -> Read<'a, List<Attr>>
@@ -109,7 +110,7 @@ fn attr_item<'a>(
 #[tactic(auto, using(crate::proofs::LevelLaws::repeat_rules), unfolding(c_grammar::specs::Reading::read_attrs))]
 pub fn attrs<'a>(
     alloc: Global,
-    names: &[Text],
+    names: &TypeNames,
     so_far: List<Attr>,
     ts: &'a [Token],
 ) -> Read<'a, List<Attr>>
@@ -132,7 +133,7 @@ pub fn attrs<'a>(
 #[tactic(auto, unfolding(c_grammar::specs::Reading::read_lead_item))]
 fn lead_item<'a>(
     alloc: Global,
-    names: &[Text],
+    names: &TypeNames,
     so_far: List<Star>,
     ts: &'a [Token],
 ) -> Read<'a, List<Star>>
@@ -148,7 +149,7 @@ fn lead_item<'a>(
 #[tactic(auto, using(crate::proofs::LevelLaws::repeat_rules), unfolding(c_grammar::specs::Reading::read_lead_attrs))]
 fn lead_attrs<'a>(
     alloc: Global,
-    names: &[Text],
+    names: &TypeNames,
     so_far: List<Star>,
     ts: &'a [Token],
 ) -> Read<'a, List<Star>>
@@ -169,7 +170,7 @@ fn lead_attrs<'a>(
 
 /// "*" | "const" | "volatile" | attr
 #[tactic(auto, unfolding(c_grammar::specs::Reading::read_star))]
-fn star<'a>(alloc: Global, names: &[Text], ts: &'a [Token]) -> Read<'a, Star>
+fn star<'a>(alloc: Global, names: &TypeNames, ts: &'a [Token]) -> Read<'a, Star>
     ensures { Gives (λ x. (x.0, x.1.now)) result (spec.read_star names.now ts.now) }
 {
     if next_is(ts, Sign::Mark(Punct::Star)) {
@@ -192,7 +193,7 @@ fn star<'a>(alloc: Global, names: &[Text], ts: &'a [Token]) -> Read<'a, Star>
 #[tactic(auto, unfolding(c_grammar::specs::Reading::read_star_item))]
 fn star_item<'a>(
     alloc: Global,
-    names: &[Text],
+    names: &TypeNames,
     so_far: List<Star>,
     ts: &'a [Token],
 ) -> Read<'a, List<Star>>
@@ -208,7 +209,7 @@ fn star_item<'a>(
 #[tactic(auto, using(crate::proofs::LevelLaws::repeat_rules), unfolding(c_grammar::specs::Reading::read_more_stars))]
 fn more_stars<'a>(
     alloc: Global,
-    names: &[Text],
+    names: &TypeNames,
     so_far: List<Star>,
     ts: &'a [Token],
 ) -> Read<'a, List<Star>>
@@ -231,7 +232,7 @@ fn more_stars<'a>(
 #[tactic(auto, unfolding(c_grammar::specs::Reading::read_some_stars))]
 fn some_stars<'a>(
     alloc: Global,
-    names: &[Text],
+    names: &TypeNames,
     so_far: List<Star>,
     ts: &'a [Token],
 ) -> Read<'a, List<Star>>
@@ -245,7 +246,7 @@ fn some_stars<'a>(
 
 /// stars = { "*" | "const" | "volatile" | attr }, where `const` and `volatile` follow a `*`.
 #[tactic(auto, unfolding(c_grammar::specs::Reading::read_stars))]
-pub fn stars<'a>(alloc: Global, names: &[Text], ts: &'a [Token]) -> Read<'a, List<Star>>
+pub fn stars<'a>(alloc: Global, names: &TypeNames, ts: &'a [Token]) -> Read<'a, List<Star>>
     ensures { Gives (λ x. (x.0, x.1.now)) result (spec.read_stars names.now ts.now) }
 {
     let (lead, rest) = lead_attrs(alloc, names, List::new(alloc), ts)?;

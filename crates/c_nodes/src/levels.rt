@@ -8,9 +8,10 @@ ghost use Rattle.c_grammar.specs.Reading as spec;
 use c_ast::Abstract;
 use c_grammar::begins::{begins_abstract, begins_either};
 use c_grammar::either::Either;
+use c_grammar::names::TypeNames;
 use c_grammar::tokens::{ParseError, Read, Sign, deep_at, fault_at, next_is, next_is_name};
 use c_lex::token::{Punct, Token};
-use cm_base::{List, Text};
+use cm_base::List;
 use std::alloc::Global;
 
 /// Why no counted part can be entered here: its first token is nested too deeply, or it can't stand here.
@@ -31,7 +32,7 @@ pub fn no_nameless<'a>(alloc: Global, ts: &'a [Token]) -> Read<'a, Abstract>
 }
 
 /// A declarator or an abstract declarator where no counted part may be entered.
-pub fn no_either<'a>(alloc: Global, names: &[Text], ts: &'a [Token]) -> Read<'a, Either>
+pub fn no_either<'a>(alloc: Global, names: &TypeNames, ts: &'a [Token]) -> Read<'a, Either>
     ensures { Gives (λ x. (x.0, x.1.now)) result (spec.no_either names.now ts.now) }
 {
     if begins_either(names, ts) {
@@ -44,7 +45,7 @@ pub fn no_either<'a>(alloc: Global, names: &[Text], ts: &'a [Token]) -> Read<'a,
 }
 
 /// Whether `(` and a name stand next.
-pub fn opens_name(names: &[Text], ts: &[Token]) -> bool
+pub fn opens_name(names: &TypeNames, ts: &[Token]) -> bool
     ensures { result ≡ spec.opens_name names.now ts.now }
 {
     next_is(ts, Sign::Mark(Punct::ParenOpen)) && next_is_name(names, &ts[1..])

@@ -2,11 +2,10 @@
 
 ghost use Rattle.std.specs.Prelude.{◌≡◌, [], ◌∷◌, IfOk};
 ghost use Rattle.c_ast.specs.declared.expr.Abstract.TheVariants as abstracts;
-ghost use Rattle.c_grammar.specs.Tokens.{named};
 ghost use Rattle.c_grammar.specs.Grammar as grammar;
 ghost use Rattle.c_grammar.specs.Reading as spec;
 
-use c_ast::{Abstract, Access, Declarator, Expr, Link, Name, Param, Spec, Star, Suffix};
+use c_ast::{Abstract, Access, Declarator, Expr, Link, Next, Param, Spec, Star, Suffix};
 use c_grammar::either::Either;
 use cm_base::{List, NoMemory, Place};
 use sqlite_items::Boxed;
@@ -21,22 +20,12 @@ pub fn alone<T: Drop>(alloc: Global, part: T) -> Result<List<T>, NoMemory>
     Ok(all)
 }
 
-/// The name of a tag that isn't there.
-pub fn no_name(alloc: Global, place: Place) -> Name
-    ensures { result ≡ named place [] }
-{
-    Name {
-        place,
-        text: List::new(alloc),
-    }
-}
-
 /// The expressions joined by `,`, or the first one where it stands alone.
 #[tactic(auto, using(crate::proofs::Chains::chains))]
 pub fn commas(
     alloc: Global,
     first: Boxed<Expr>,
-    more: List<Expr>,
+    more: List<Next>,
 ) -> Result<Boxed<Expr>, AllocError>
     ensures { IfOk result (λ e. e ≡ grammar.commas first more) }
 {
@@ -74,16 +63,6 @@ pub fn joined(
         return Ok(first);
     }
     Boxed::new(alloc, Expr::Binary(first, more))
-}
-
-/// An expression that may be there, without its box.
-pub fn opened(found: Option<Boxed<Expr>>) -> Option<Expr>
-    ensures { result ≡ found }
-{
-    match found {
-        Some(expr) => Some(expr.into_inner()),
-        None => None,
-    }
 }
 
 /// The stars, the declarator in parentheses and the suffixes as an abstract declarator.

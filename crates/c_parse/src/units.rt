@@ -3,23 +3,25 @@
 ghost use Rattle.c_grammar.specs.Tokens.{Gives};
 ghost use Rattle.c_grammar.specs.Reading as spec;
 
-use crate::names::{added, header_names};
+use crate::names::{add_declared, add_header};
 use c_ast::{Attr, Decl, Declarator, External, Function, Spec};
 use c_exprs::declarators::declarator;
 use c_exprs::types::specs;
+use c_grammar::names::TypeNames;
 use c_grammar::tokens::{Read, Sign, expect, has_include, next_is, take_include};
 use c_lex::token::{Punct, Token};
 use c_nodes::attrs::attrs;
 use c_nodes::nodes::alone;
 use c_stmts::decls::{init_end, more_inits};
 use c_stmts::stmts::block;
-use cm_base::{List, Text};
+use cm_base::List;
+use sqlite_items::Boxed;
 use std::alloc::Global;
 
-/// The typedef names and the parts of a unit so far.
+/// The names of types and the parts of a unit so far.
 #[derive(Drop)]
 pub struct SoFar {
-    pub names: List<Text>,
+    pub names: TypeNames,
     pub parts: List<External>,
 }
 
@@ -27,7 +29,7 @@ pub struct SoFar {
 #[tactic(auto, unfolding(c_grammar::specs::Reading::read_function_body))]
 fn function_body<'a>(
     alloc: Global,
-    names: &[Text],
+    names: &TypeNames,
     left: usize,
     specs: List<Spec>,
     declarator: Declarator,
@@ -37,22 +39,20 @@ fn function_body<'a>(
     ensures { Gives (λ x. (x.0, x.1.now)) result (spec.read_function_body names.now (spec.levels names.now left) specs declarator attrs ts.now) }
 {
     let (body, rest) = block(alloc, names, left, ts)?;
-    Ok((
-        External::Function(Function {
-            specs,
-            declarator,
-            attrs,
-            body,
-        }),
-        rest,
-    ))
+    let whole = Function {
+        specs,
+        declarator,
+        attrs,
+        body,
+    };
+    Ok((External::Function(Boxed::new(alloc, whole)?), rest))
 }
 
 /// [ "=" initial ] { "," init } ";", after the first declarator and its attributes.
 #[tactic(auto, unfolding(c_grammar::specs::Reading::read_other_inits))]
 fn other_inits<'a>(
     alloc: Global,
-    names: &[Text],
+    names: &TypeNames,
     left: usize,
     specs: List<Spec>,
     declarator: Declarator,
@@ -71,7 +71,7 @@ fn other_inits<'a>(
 #[tactic(auto, unfolding(c_grammar::specs::Reading::read_after_attrs))]
 fn after_attrs<'a>(
     alloc: Global,
-    names: &[Text],
+    names: &TypeNames,
     left: usize,
     specs: List<Spec>,
     declarator: Declarator,
@@ -90,7 +90,7 @@ fn after_attrs<'a>(
 #[tactic(auto, unfolding(c_grammar::specs::Reading::read_declared))]
 fn declares<'a>(
     alloc: Global,
-    names: &[Text],
+    names: &TypeNames,
     left: usize,
     specs: List<Spec>,
     ts: &'a [Token],
@@ -121,7 +121,7 @@ fn bare<'a>(alloc: Global, specs: List<Spec>, ts: &'a [Token]) -> Read<'a, Exter
 #[tactic(auto, unfolding(c_grammar::specs::Reading::read_after_specs))]
 fn after_specs<'a>(
     alloc: Global,
-    names: &[Text],
+    names: &TypeNames,
     left: usize,
     specs: List<Spec>,
     ts: &'a [Token],
@@ -136,7 +136,7 @@ fn after_specs<'a>(
 
 /// decl | function, where function = specs declarator { attr } block
 #[tactic(auto, unfolding(c_grammar::specs::Reading::read_external))]
-fn external<'a>(alloc: Global, names: &[Text], left: usize, ts: &'a [Token]) -> Read<'a, External>
+fn external<'a>(alloc: Global, names: &TypeNames, left: usize, ts: &'a [Token]) -> Read<'a, External>
     ensures { Gives (λ x. (x.0, x.1.now)) result (spec.read_external names.now (spec.levels names.now left) ts.now) }
 {
     let (specs, rest) = specs(alloc, names, left, ts)?;
@@ -153,7 +153,7 @@ fn include<'a>(alloc: Global, so_far: SoFar, ts: &'a [Token]) -> Read<'a, SoFar>
         mut names,
         mut parts,
     } = so_far;
-    names.append(header_names(alloc, header.1)?)?;
+    add_header(&mut names, header.1, alloc)?;
     parts.push(External::Include(header.0, header.1))?;
     Ok((SoFar { names, parts }, rest))
 }
@@ -167,8 +167,8 @@ fn no_include<'a>(alloc: Global, left: usize, so_far: SoFar, ts: &'a [Token]) ->
         mut names,
         mut parts,
     } = so_far;
-    let (part, rest) = external(alloc, names.as_slice(), left, ts)?;
-    names.append(added(alloc, &part)?)?;
+    let (part, rest) = external(alloc, &names, left, ts)?;
+    add_declared(&mut names, &part, alloc)?;
     parts.push(part)?;
     Ok((SoFar { names, parts }, rest))
 }
@@ -190,7 +190,7 @@ pub fn unit<'a>(alloc: Global, left: usize, ts: &'a [Token]) -> Read<'a, SoFar>
     ensures { Gives (λ x. ((x.0.names, x.0.parts), x.1.now)) result (spec.read_unit left ts.now) }
 {
     let mut all = SoFar {
-        names: List::new(alloc),
+        names: TypeNames::new(alloc),
         parts: List::new(alloc),
     };
     let mut rest = ts;

@@ -8,18 +8,20 @@ use c_exprs::declarators::declarator;
 use c_exprs::exprs::assign;
 use c_exprs::types::specs;
 use c_grammar::begins::{begins_initial, comma_more};
+use c_grammar::names::TypeNames;
 use c_grammar::tokens::{Read, Sign, expect, next_is};
 use c_lex::token::{Punct, Token};
 use c_nodes::attrs::{attrs, opt_comma};
 use c_nodes::levels::deep_if;
 use c_nodes::nodes::alone;
-use cm_base::{List, Text};
+use cm_base::List;
+use sqlite_items::Boxed;
 use std::alloc::Global;
 
 /// initial = assign | "{" initial { "," initial } [ "," ] "}"
 #[cycle(initials)]
 #[tactic(auto, using(c_nodes::proofs::LevelLaws::initials_rules), unfolding(c_grammar::specs::Reading::read_initial))]
-pub fn initial<'a>(alloc: Global, names: &[Text], left: usize, ts: &'a [Token]) -> Read<'a, Initial>
+pub fn initial<'a>(alloc: Global, names: &TypeNames, left: usize, ts: &'a [Token]) -> Read<'a, Initial>
     ensures { Gives (λ x. (x.0, x.1.now)) result ((spec.levels names.now left).initials ts.now) }
 {
     if left == 0 {
@@ -38,7 +40,7 @@ pub fn initial<'a>(alloc: Global, names: &[Text], left: usize, ts: &'a [Token]) 
 #[tactic(auto, unfolding(c_grammar::specs::Reading::read_braced_initial))]
 fn braced_initial<'a>(
     alloc: Global,
-    names: &[Text],
+    names: &TypeNames,
     left: usize,
     ts: &'a [Token],
 ) -> Read<'a, Initial>
@@ -57,7 +59,7 @@ fn braced_initial<'a>(
 #[tactic(auto, unfolding(c_grammar::specs::Reading::read_initial_item))]
 fn initial_item<'a>(
     alloc: Global,
-    names: &[Text],
+    names: &TypeNames,
     left: usize,
     so_far: List<Initial>,
     ts: &'a [Token],
@@ -76,7 +78,7 @@ fn initial_item<'a>(
 #[tactic(auto, using(c_nodes::proofs::LevelLaws::repeat_rules), unfolding(c_grammar::specs::Reading::read_more_initials))]
 fn more_initials<'a>(
     alloc: Global,
-    names: &[Text],
+    names: &TypeNames,
     left: usize,
     so_far: List<Initial>,
     ts: &'a [Token],
@@ -98,7 +100,7 @@ fn more_initials<'a>(
 
 /// init = declarator { attr } [ "=" initial ]
 #[tactic(auto, unfolding(c_grammar::specs::Reading::read_init))]
-fn init<'a>(alloc: Global, names: &[Text], left: usize, ts: &'a [Token]) -> Read<'a, Init>
+fn init<'a>(alloc: Global, names: &TypeNames, left: usize, ts: &'a [Token]) -> Read<'a, Init>
     ensures { Gives (λ x. (x.0, x.1.now)) result (spec.read_init names.now (spec.levels names.now left) ts.now) }
 {
     let (declarator, rest) = declarator(alloc, names, left, ts)?;
@@ -110,7 +112,7 @@ fn init<'a>(alloc: Global, names: &[Text], left: usize, ts: &'a [Token]) -> Read
 #[tactic(auto, unfolding(c_grammar::specs::Reading::read_init_end))]
 pub fn init_end<'a>(
     alloc: Global,
-    names: &[Text],
+    names: &TypeNames,
     left: usize,
     declarator: Declarator,
     attrs: List<Attr>,
@@ -135,7 +137,7 @@ pub fn init_end<'a>(
 #[tactic(auto, unfolding(c_grammar::specs::Reading::read_init_value))]
 fn init_value<'a>(
     alloc: Global,
-    names: &[Text],
+    names: &TypeNames,
     left: usize,
     declarator: Declarator,
     attrs: List<Attr>,
@@ -149,7 +151,7 @@ fn init_value<'a>(
         Init {
             declarator,
             attrs,
-            value: Some(value),
+            value: Some(Boxed::new(alloc, value)?),
         },
         rest,
     ))
@@ -159,7 +161,7 @@ fn init_value<'a>(
 #[tactic(auto, unfolding(c_grammar::specs::Reading::read_init_item))]
 fn init_item<'a>(
     alloc: Global,
-    names: &[Text],
+    names: &TypeNames,
     left: usize,
     so_far: List<Init>,
     ts: &'a [Token],
@@ -177,7 +179,7 @@ fn init_item<'a>(
 #[tactic(auto, using(c_nodes::proofs::LevelLaws::repeat_rules), unfolding(c_grammar::specs::Reading::read_more_inits))]
 pub fn more_inits<'a>(
     alloc: Global,
-    names: &[Text],
+    names: &TypeNames,
     left: usize,
     so_far: List<Init>,
     ts: &'a [Token],
@@ -199,7 +201,7 @@ pub fn more_inits<'a>(
 
 /// decl = specs [ init { "," init } ] ";"
 #[tactic(auto, unfolding(c_grammar::specs::Reading::read_decl))]
-pub fn decl<'a>(alloc: Global, names: &[Text], left: usize, ts: &'a [Token]) -> Read<'a, Decl>
+pub fn decl<'a>(alloc: Global, names: &TypeNames, left: usize, ts: &'a [Token]) -> Read<'a, Decl>
     ensures { Gives (λ x. (x.0, x.1.now)) result (spec.read_decl names.now (spec.levels names.now left) ts.now) }
 {
     let (specs, rest) = specs(alloc, names, left, ts)?;
@@ -220,7 +222,7 @@ pub fn decl<'a>(alloc: Global, names: &[Text], left: usize, ts: &'a [Token]) -> 
 #[tactic(auto, unfolding(c_grammar::specs::Reading::read_inits_decl))]
 fn inits_decl<'a>(
     alloc: Global,
-    names: &[Text],
+    names: &TypeNames,
     left: usize,
     specs: List<Spec>,
     ts: &'a [Token],

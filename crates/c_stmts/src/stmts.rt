@@ -5,14 +5,14 @@ ghost use Rattle.c_grammar.specs.Reading as spec;
 ghost use Rattle.c_stmts.specs.Parts as parts_of;
 
 use crate::decls::decl;
-use c_ast::{Block, Expr, First, Item, Label, Part, Stmt};
+use c_ast::{Block, Expr, First, ForHead, Item, Label, Part, Stmt};
 use c_exprs::exprs::{cond, expr};
 use c_grammar::begins::{begins_expr, begins_label, begins_spec, begins_stmt};
+use c_grammar::names::TypeNames;
 use c_grammar::tokens::{Read, Sign, expect, next_is};
 use c_lex::token::{Keyword, Punct, Token};
 use c_nodes::levels::{deep_if, in_braces};
-use c_nodes::nodes::opened;
-use cm_base::{List, Place, Text};
+use cm_base::{List, Place};
 use sqlite_items::Boxed;
 use std::alloc::Global;
 
@@ -20,7 +20,7 @@ use std::alloc::Global;
 #[tactic(auto, unfolding(c_grammar::specs::Reading::read_opt_expr))]
 fn opt_expr<'a>(
     alloc: Global,
-    names: &[Text],
+    names: &TypeNames,
     left: usize,
     ts: &'a [Token],
 ) -> Read<'a, Option<Boxed<Expr>>>
@@ -35,7 +35,7 @@ fn opt_expr<'a>(
 
 /// decl | [ expr ] ";"
 #[tactic(auto, unfolding(c_grammar::specs::Reading::read_first))]
-fn first<'a>(alloc: Global, names: &[Text], left: usize, ts: &'a [Token]) -> Read<'a, Boxed<First>>
+fn first<'a>(alloc: Global, names: &TypeNames, left: usize, ts: &'a [Token]) -> Read<'a, Boxed<First>>
     ensures { Gives (λ x. (x.0, x.1.now)) result (spec.read_first names.now (spec.levels names.now left) ts.now) }
 {
     if begins_spec(names, ts) {
@@ -44,23 +44,23 @@ fn first<'a>(alloc: Global, names: &[Text], left: usize, ts: &'a [Token]) -> Rea
     }
     let (found, rest) = opt_expr(alloc, names, left, ts)?;
     let (_end, rest) = expect(rest, Sign::Mark(Punct::Semicolon))?;
-    Ok((Boxed::new(alloc, First::Expr(opened(found)))?, rest))
+    Ok((Boxed::new(alloc, First::Expr(found))?, rest))
 }
 
 /// "case" cond ":"
 #[tactic(auto, unfolding(c_grammar::specs::Reading::read_case_label))]
-fn case_label<'a>(alloc: Global, names: &[Text], left: usize, ts: &'a [Token]) -> Read<'a, Label>
+fn case_label<'a>(alloc: Global, names: &TypeNames, left: usize, ts: &'a [Token]) -> Read<'a, Label>
     ensures { Gives (λ x. (x.0, x.1.now)) result (spec.read_case_label names.now (spec.levels names.now left) ts.now) }
 {
     let (place, rest) = expect(ts, Sign::Word(Keyword::Case))?;
     let (value, rest) = cond(alloc, names, left, rest)?;
     let (_colon, rest) = expect(rest, Sign::Mark(Punct::Colon))?;
-    Ok((Label::Case(place, value.into_inner()), rest))
+    Ok((Label::Case(place, value), rest))
 }
 
 /// label = "case" cond ":" | "default" ":"
 #[tactic(auto, unfolding(c_grammar::specs::Reading::read_label))]
-fn label<'a>(alloc: Global, names: &[Text], left: usize, ts: &'a [Token]) -> Read<'a, Label>
+fn label<'a>(alloc: Global, names: &TypeNames, left: usize, ts: &'a [Token]) -> Read<'a, Label>
     ensures { Gives (λ x. (x.0, x.1.now)) result (spec.read_label names.now (spec.levels names.now left) ts.now) }
 {
     if next_is(ts, Sign::Word(Keyword::Case)) {
@@ -74,7 +74,7 @@ fn label<'a>(alloc: Global, names: &[Text], left: usize, ts: &'a [Token]) -> Rea
 /// block = "{" { decl | stmt } "}"
 #[cycle(stmts)]
 #[tactic(auto, unfolding(c_grammar::specs::Reading::read_block))]
-pub fn block<'a>(alloc: Global, names: &[Text], left: usize, ts: &'a [Token]) -> Read<'a, Block>
+pub fn block<'a>(alloc: Global, names: &TypeNames, left: usize, ts: &'a [Token]) -> Read<'a, Block>
     ensures { Gives (λ x. (x.0, x.1.now)) result (spec.read_block names.now (spec.levels names.now left) ts.now) }
 {
     let (place, rest) = expect(ts, Sign::Mark(Punct::BraceOpen))?;
@@ -88,7 +88,7 @@ pub fn block<'a>(alloc: Global, names: &[Text], left: usize, ts: &'a [Token]) ->
 #[tactic(auto, unfolding(c_grammar::specs::Reading::read_item_item))]
 fn item_item<'a>(
     alloc: Global,
-    names: &[Text],
+    names: &TypeNames,
     left: usize,
     so_far: List<Item>,
     ts: &'a [Token],
@@ -106,7 +106,7 @@ fn item_item<'a>(
 #[tactic(auto, using(c_nodes::proofs::LevelLaws::repeat_rules), unfolding(c_grammar::specs::Reading::read_items))]
 fn items<'a>(
     alloc: Global,
-    names: &[Text],
+    names: &TypeNames,
     left: usize,
     so_far: List<Item>,
     ts: &'a [Token],
@@ -129,7 +129,7 @@ fn items<'a>(
 /// decl | stmt
 #[cycle(stmts)]
 #[tactic(auto, unfolding(c_grammar::specs::Reading::read_item))]
-fn item<'a>(alloc: Global, names: &[Text], left: usize, ts: &'a [Token]) -> Read<'a, Item>
+fn item<'a>(alloc: Global, names: &TypeNames, left: usize, ts: &'a [Token]) -> Read<'a, Item>
     ensures { Gives (λ x. (x.0, x.1.now)) result (spec.read_item names.now (spec.levels names.now left) ts.now) }
 {
     if begins_spec(names, ts) {
@@ -147,7 +147,7 @@ fn item<'a>(alloc: Global, names: &[Text], left: usize, ts: &'a [Token]) -> Read
 /// | "switch" "(" expr ")" "{" { label | decl | stmt } "}"
 #[cycle(stmts)]
 #[tactic(auto, using(c_nodes::proofs::LevelLaws::stmts_rules))]
-fn stmt<'a>(alloc: Global, names: &[Text], left: usize, ts: &'a [Token]) -> Read<'a, Boxed<Stmt>>
+fn stmt<'a>(alloc: Global, names: &TypeNames, left: usize, ts: &'a [Token]) -> Read<'a, Boxed<Stmt>>
     ensures { Gives (λ x. (x.0, x.1.now)) result ((spec.levels names.now left).stmts ts.now) }
 {
     if left == 0 {
@@ -162,7 +162,7 @@ fn stmt<'a>(alloc: Global, names: &[Text], left: usize, ts: &'a [Token]) -> Read
 #[tactic(auto, unfolding(c_grammar::specs::Reading::read_stmt))]
 fn stmt_below<'a>(
     alloc: Global,
-    names: &[Text],
+    names: &TypeNames,
     left: usize,
     ts: &'a [Token],
 ) -> Read<'a, Boxed<Stmt>>
@@ -224,7 +224,7 @@ fn continue_stmt<'a>(alloc: Global, ts: &'a [Token]) -> Read<'a, Boxed<Stmt>>
 /// expr ";"
 fn expr_stmt<'a>(
     alloc: Global,
-    names: &[Text],
+    names: &TypeNames,
     left: usize,
     ts: &'a [Token],
 ) -> Read<'a, Boxed<Stmt>>
@@ -239,7 +239,7 @@ fn expr_stmt<'a>(
 #[tactic(auto, unfolding(c_grammar::specs::Reading::read_return_stmt))]
 fn return_stmt<'a>(
     alloc: Global,
-    names: &[Text],
+    names: &TypeNames,
     left: usize,
     ts: &'a [Token],
 ) -> Read<'a, Boxed<Stmt>>
@@ -248,14 +248,14 @@ fn return_stmt<'a>(
     let (place, rest) = expect(ts, Sign::Word(Keyword::Return))?;
     let (value, rest) = opt_expr(alloc, names, left, rest)?;
     let (_end, rest) = expect(rest, Sign::Mark(Punct::Semicolon))?;
-    let whole = Stmt::Return(place, opened(value));
+    let whole = Stmt::Return(place, value);
     Ok((Boxed::new(alloc, whole)?, rest))
 }
 
 /// "if" "(" expr ")" stmt [ "else" stmt ]
 #[cycle(stmts)]
 #[tactic(auto, unfolding(c_grammar::specs::Reading::read_if_stmt))]
-fn if_stmt<'a>(alloc: Global, names: &[Text], left: usize, ts: &'a [Token]) -> Read<'a, Boxed<Stmt>>
+fn if_stmt<'a>(alloc: Global, names: &TypeNames, left: usize, ts: &'a [Token]) -> Read<'a, Boxed<Stmt>>
     ensures { Gives (λ x. (x.0, x.1.now)) result (spec.read_if_stmt names.now (spec.levels names.now left) ts.now) }
 {
     let (place, rest) = expect(ts, Sign::Word(Keyword::If))?;
@@ -266,7 +266,7 @@ fn if_stmt<'a>(alloc: Global, names: &[Text], left: usize, ts: &'a [Token]) -> R
     if next_is(rest, Sign::Word(Keyword::Else)) {
         return if_else(alloc, names, left, place, test, holds, rest);
     }
-    let whole = Stmt::If(place, test.into_inner(), holds, None);
+    let whole = Stmt::If(place, test, holds, None);
     Ok((Boxed::new(alloc, whole)?, rest))
 }
 
@@ -275,7 +275,7 @@ fn if_stmt<'a>(alloc: Global, names: &[Text], left: usize, ts: &'a [Token]) -> R
 #[tactic(auto, unfolding(c_grammar::specs::Reading::read_if_else))]
 fn if_else<'a>(
     alloc: Global,
-    names: &[Text],
+    names: &TypeNames,
     left: usize,
     place: Place,
     test: Boxed<Expr>,
@@ -286,7 +286,7 @@ fn if_else<'a>(
 {
     let (_else, rest) = expect(ts, Sign::Word(Keyword::Else))?;
     let (fails, rest) = stmt(alloc, names, left, rest)?;
-    let whole = Stmt::If(place, test.into_inner(), holds, Some(fails));
+    let whole = Stmt::If(place, test, holds, Some(fails));
     Ok((Boxed::new(alloc, whole)?, rest))
 }
 
@@ -295,7 +295,7 @@ fn if_else<'a>(
 #[tactic(auto, unfolding(c_grammar::specs::Reading::read_while_stmt))]
 fn while_stmt<'a>(
     alloc: Global,
-    names: &[Text],
+    names: &TypeNames,
     left: usize,
     ts: &'a [Token],
 ) -> Read<'a, Boxed<Stmt>>
@@ -306,14 +306,14 @@ fn while_stmt<'a>(
     let (test, rest) = expr(alloc, names, left, rest)?;
     let (_close, rest) = expect(rest, Sign::Mark(Punct::ParenClose))?;
     let (body, rest) = stmt(alloc, names, left, rest)?;
-    let whole = Stmt::While(place, test.into_inner(), body);
+    let whole = Stmt::While(place, test, body);
     Ok((Boxed::new(alloc, whole)?, rest))
 }
 
 /// "do" stmt "while" "(" expr ")" ";"
 #[cycle(stmts)]
 #[tactic(auto, unfolding(c_grammar::specs::Reading::read_do_stmt))]
-fn do_stmt<'a>(alloc: Global, names: &[Text], left: usize, ts: &'a [Token]) -> Read<'a, Boxed<Stmt>>
+fn do_stmt<'a>(alloc: Global, names: &TypeNames, left: usize, ts: &'a [Token]) -> Read<'a, Boxed<Stmt>>
     ensures { Gives (λ x. (x.0, x.1.now)) result (spec.read_do_stmt names.now (spec.levels names.now left) ts.now) }
 {
     let (place, rest) = expect(ts, Sign::Word(Keyword::Do))?;
@@ -323,7 +323,7 @@ fn do_stmt<'a>(alloc: Global, names: &[Text], left: usize, ts: &'a [Token]) -> R
     let (test, rest) = expr(alloc, names, left, rest)?;
     let (_close, rest) = expect(rest, Sign::Mark(Punct::ParenClose))?;
     let (_end, rest) = expect(rest, Sign::Mark(Punct::Semicolon))?;
-    let whole = Stmt::DoWhile(place, body, test.into_inner());
+    let whole = Stmt::DoWhile(place, body, test);
     Ok((Boxed::new(alloc, whole)?, rest))
 }
 
@@ -332,7 +332,7 @@ fn do_stmt<'a>(alloc: Global, names: &[Text], left: usize, ts: &'a [Token]) -> R
 #[tactic(auto, unfolding(c_grammar::specs::Reading::read_for_stmt))]
 fn for_stmt<'a>(
     alloc: Global,
-    names: &[Text],
+    names: &TypeNames,
     left: usize,
     ts: &'a [Token],
 ) -> Read<'a, Boxed<Stmt>>
@@ -343,10 +343,11 @@ fn for_stmt<'a>(
     let (first, rest) = first(alloc, names, left, rest)?;
     let (test, rest) = opt_expr(alloc, names, left, rest)?;
     let (_end, rest) = expect(rest, Sign::Mark(Punct::Semicolon))?;
-    let (next, rest) = opt_expr(alloc, names, left, rest)?;
+    let (step, rest) = opt_expr(alloc, names, left, rest)?;
     let (_close, rest) = expect(rest, Sign::Mark(Punct::ParenClose))?;
     let (body, rest) = stmt(alloc, names, left, rest)?;
-    let whole = Stmt::For(place, first.into_inner(), opened(test), opened(next), body);
+    let head = ForHead { first, test, step };
+    let whole = Stmt::For(place, head, body);
     Ok((Boxed::new(alloc, whole)?, rest))
 }
 
@@ -355,7 +356,7 @@ fn for_stmt<'a>(
 #[tactic(auto, unfolding(c_grammar::specs::Reading::read_switch_stmt))]
 fn switch_stmt<'a>(
     alloc: Global,
-    names: &[Text],
+    names: &TypeNames,
     left: usize,
     ts: &'a [Token],
 ) -> Read<'a, Boxed<Stmt>>
@@ -368,7 +369,7 @@ fn switch_stmt<'a>(
     let (_open, rest) = expect(rest, Sign::Mark(Punct::BraceOpen))?;
     let (all, rest) = parts(alloc, names, left, List::new(alloc), rest)?;
     let (_close, rest) = expect(rest, Sign::Mark(Punct::BraceClose))?;
-    let whole = Stmt::Switch(place, value.into_inner(), all);
+    let whole = Stmt::Switch(place, value, all);
     Ok((Boxed::new(alloc, whole)?, rest))
 }
 
@@ -377,7 +378,7 @@ fn switch_stmt<'a>(
 #[tactic(auto, unfolding(c_grammar::specs::Reading::read_part_item))]
 fn part_item<'a>(
     alloc: Global,
-    names: &[Text],
+    names: &TypeNames,
     left: usize,
     so_far: List<Part>,
     ts: &'a [Token],
@@ -395,7 +396,7 @@ fn part_item<'a>(
 #[tactic(auto, using(c_nodes::proofs::LevelLaws::repeat_rules), unfolding(c_grammar::specs::Reading::read_parts))]
 fn parts<'a>(
     alloc: Global,
-    names: &[Text],
+    names: &TypeNames,
     left: usize,
     so_far: List<Part>,
     ts: &'a [Token],
@@ -418,7 +419,7 @@ fn parts<'a>(
 /// label | decl | stmt
 #[cycle(stmts)]
 #[tactic(auto, unfolding(c_grammar::specs::Reading::read_part))]
-fn part<'a>(alloc: Global, names: &[Text], left: usize, ts: &'a [Token]) -> Read<'a, Part>
+fn part<'a>(alloc: Global, names: &TypeNames, left: usize, ts: &'a [Token]) -> Read<'a, Part>
     ensures { Gives (λ x. (x.0, x.1.now)) result (spec.read_part names.now (spec.levels names.now left) ts.now) }
 {
     if begins_label(ts) {

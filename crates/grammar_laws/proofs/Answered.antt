@@ -10,6 +10,7 @@ use Rattle.c_ast.specs.declared.expr.EnumSpec.{EnumSpec}
 use Rattle.c_ast.specs.declared.expr.Enumerator.{Enumerator}
 use Rattle.c_ast.specs.declared.expr.Expr.{Expr}
 use Rattle.c_ast.specs.declared.expr.Link.{Link}
+use Rattle.c_ast.specs.declared.expr.Next.{Next as After}
 use Rattle.c_ast.specs.declared.expr.Member.{Member}
 use Rattle.c_ast.specs.declared.expr.Param.{Param}
 use Rattle.c_ast.specs.declared.expr.Params.{Params}
@@ -19,9 +20,9 @@ use Rattle.c_ast.specs.declared.expr.Suffix.{Suffix}
 use Rattle.c_ast.specs.declared.expr.TypeName.{TypeName}
 use Rattle.c_grammar.specs.declared.either.Either.TheVariants as either
 use Rattle.c_grammar.specs.Tokens.{next_is, has, op_of, begins_access, begins_spec, comma_more, begins_suffix}
-use Rattle.c_grammar.specs.Grammar.{ExprAt, Assign, Cond, Cast, TypeNameAt, Unary, Stepped, SizeofAt, Postfix, AccessAt, Args, Primary, SpecsAt, SpecAt, StructAt, Members, MemberAt, EnumAt, Enumrs, EnumrAt, DeclaratorAt, SuffixAt, OptCond, ParamsAt, ParamAt, AbstractAt, Binary, MoreOps, MoreExprs, Accesses, MoreSpecs, MoreMembers, MoreDeclarators, MoreEnumrs, Suffixes, MoreParams}
-use Rattle.c_grammar.specs.Reading.{levels, repeat, read_access, read_access_item, read_args, read_binary, read_declarator_item, read_enumr, read_enumr_item, read_enumrs, read_enums, read_expr, read_expr_item, read_member, read_member_item, read_members, read_op_item, read_opt_cond, read_param, read_param_item, read_params, read_postfix, read_primary, read_size_of, read_spec, read_spec_item, read_specs, read_suffix, read_suffix_item, read_typename, read_unary}
-use Rattle.c_grammar.specs.Nesting.{deep_access, deep_accesses, deep_args, deep_assign, deep_binary, deep_cast, deep_cond, deep_declarator, deep_enumr, deep_enumrs, deep_enums, deep_expr, deep_member, deep_members, deep_more_declarators, deep_more_enumrs, deep_more_exprs, deep_more_members, deep_more_ops, deep_more_params, deep_more_specs, deep_nameless, deep_opt_cond, deep_param, deep_params, deep_postfix, deep_primary, deep_size_of, deep_spec, deep_specs, deep_stepped, deep_structs, deep_suffix, deep_suffixes, deep_typename, deep_unary}
+use Rattle.c_grammar.specs.Grammar.{ExprAt, Assign, Cond, Cast, TypeNameAt, Unary, Stepped, SizeofAt, Postfix, AccessAt, Args, Primary, SpecsAt, SpecAt, StructAt, Members, MemberAt, EnumAt, Enumrs, EnumrAt, DeclaratorAt, SuffixAt, OptCond, ParamsAt, ParamAt, AbstractAt, Binary, MoreOps, MoreCommas, MoreExprs, Accesses, MoreSpecs, MoreMembers, MoreDeclarators, MoreEnumrs, Suffixes, MoreParams}
+use Rattle.c_grammar.specs.Reading.{levels, repeat, read_access, read_access_item, read_args, read_binary, read_comma_item, read_declarator_item, read_enumr, read_enumr_item, read_enumrs, read_enums, read_expr, read_expr_item, read_member, read_member_item, read_members, read_op_item, read_opt_cond, read_param, read_param_item, read_params, read_postfix, read_primary, read_size_of, read_spec, read_spec_item, read_specs, read_suffix, read_suffix_item, read_typename, read_unary}
+use Rattle.c_grammar.specs.Nesting.{deep_access, deep_accesses, deep_args, deep_assign, deep_binary, deep_cast, deep_cond, deep_declarator, deep_enumr, deep_enumrs, deep_enums, deep_expr, deep_member, deep_members, deep_more_commas, deep_more_declarators, deep_more_enumrs, deep_more_exprs, deep_more_members, deep_more_ops, deep_more_params, deep_more_specs, deep_nameless, deep_opt_cond, deep_param, deep_params, deep_postfix, deep_primary, deep_size_of, deep_spec, deep_specs, deep_stepped, deep_structs, deep_suffix, deep_suffixes, deep_typename, deep_unary}
 use Rattle.grammar_laws.proofs.Steps.{Answers}
 
 abbrev pub ExprReads : {names : List (List ℕ)} {ts rest : List Token} {a : Expr} → ExprAt names ts a rest → ℕ → Type 0
@@ -113,6 +114,9 @@ abbrev pub UnnamedReads : {names : List (List ℕ)} {ts rest : List Token} {a : 
 UnnamedReads {names = names} {ts = ts} {rest = rest} {a = a} d n = Answers ((levels names n).either ts) (deep_nameless d n) (either.Unnamed a, rest)
 
 -- ---- chains
+
+abbrev pub MoreCommasReads : {names : List (List ℕ)} {ts rest : List Token} {so_far all : List After} → MoreCommas names ts so_far all rest → ℕ → ℕ → Type 0
+MoreCommasReads {names = names} {ts = ts} {rest = rest} {so_far = so_far} {all = all} d n fuel = Answers (repeat (next_is (Mark mark.Comma)) (read_comma_item names (levels names n)) fuel so_far ts) (deep_more_commas d n) (all, rest)
 
 abbrev pub MoreExprsReads : {names : List (List ℕ)} {ts rest : List Token} {so_far all : List Expr} → MoreExprs names ts so_far all rest → ℕ → ℕ → Type 0
 MoreExprsReads {names = names} {ts = ts} {rest = rest} {so_far = so_far} {all = all} d n fuel = Answers (repeat (next_is (Mark mark.Comma)) (read_expr_item names (levels names n)) fuel so_far ts) (deep_more_exprs d n) (all, rest)

@@ -5,6 +5,7 @@ use Rattle.c_lex.specs.declared.token.Token.{Token}
 use Rattle.c_grammar.specs.declared.tokens.Sign.TheVariants.{Mark}
 use Rattle.c_ast.specs.declared.expr.Expr.{Expr}
 use Rattle.c_ast.specs.declared.expr.Link.{Link}
+use Rattle.c_ast.specs.declared.expr.Next.{Next as After}
 use Rattle.c_ast.specs.declared.expr.Access.{Access}
 use Rattle.c_ast.specs.declared.expr.TypeName.{TypeName}
 use Rattle.c_ast.specs.declared.expr.Spec.{Spec}
@@ -18,18 +19,22 @@ use Rattle.c_ast.specs.declared.expr.Params.{Params}
 use Rattle.c_ast.specs.declared.expr.Param.{Param}
 use Rattle.c_ast.specs.declared.expr.Abstract.{Abstract}
 use Rattle.c_grammar.specs.Tokens.{begins_expr, begins_spec, comma_more, expr_token, next_is_name, spec_token}
-use Rattle.c_grammar.specs.Grammar.{AbstractAt, AccessAt, Accesses, Args, Assign, Binary, Cast, Cond, DeclaratorAt, EnumAt, EnumrAt, Enumrs, ExprAt, MemberAt, Members, MoreDeclarators, MoreEnumrs, MoreExprs, MoreMembers, MoreOps, MoreParams, MoreSpecs, Next, OptCond, ParamAt, ParamsAt, Postfix, Primary, SizeofAt, SpecAt, SpecsAt, Stepped, StructAt, SuffixAt, Suffixes, TypeNameAt, Unary, a_char, a_cond, a_member, a_name, a_number, a_sizeof, a_string, a_struct, a_type, a_word, an_attr, an_enum, array_suffix, assigned, binaries, braced_enumrs, braced_members, called, chosen, converted, counted_unary, enum_body, enum_plain, enum_tag, enumr_plain, enumr_value, exprs, group_abstract, group_declarator, grouped, indexed, member_behind, member_of, named_param, next_access, next_declarator, next_enumr, next_expr, next_member, next_op, next_param, next_spec, next_suffix, no_access, no_args, no_cond, no_declarator, no_enumr, no_expr, no_member, no_op, no_param, no_params, no_spec, no_suffix, only_binary, only_cast, only_cond, only_postfix, only_unary, params_suffix, plain_abstract, plain_declarator, postfixed, prefixed, sizeof_expr, sizeof_type, some_args, some_params, some_specs, step_after, step_before, struct_body, struct_plain, struct_tag, type_name, unnamed_param, void_only}
+use Rattle.c_grammar.specs.Grammar.{AbstractAt, AccessAt, Accesses, Args, Assign, Binary, Cast, Cond, DeclaratorAt, EnumAt, EnumrAt, Enumrs, ExprAt, MemberAt, Members, MoreCommas, MoreDeclarators, MoreEnumrs, MoreExprs, MoreMembers, MoreOps, MoreParams, MoreSpecs, Next, OptCond, ParamAt, ParamsAt, Postfix, Primary, SizeofAt, SpecAt, SpecsAt, Stepped, StructAt, SuffixAt, Suffixes, TypeNameAt, Unary, a_char, a_cond, a_member, a_name, a_number, a_sizeof, a_string, a_struct, a_type, a_word, an_attr, an_enum, array_suffix, assigned, binaries, braced_enumrs, braced_members, called, chosen, converted, counted_unary, enum_body, enum_plain, enum_tag, enumr_plain, enumr_value, exprs, group_abstract, group_declarator, grouped, indexed, member_behind, member_of, named_param, next_access, next_comma, next_declarator, next_enumr, next_expr, next_member, next_op, next_param, next_spec, next_suffix, no_access, no_args, no_commas, no_cond, no_declarator, no_enumr, no_expr, no_member, no_op, no_param, no_params, no_spec, no_suffix, only_binary, only_cast, only_cond, only_postfix, only_unary, params_suffix, plain_abstract, plain_declarator, postfixed, prefixed, sizeof_expr, sizeof_type, some_args, some_params, some_specs, step_after, step_before, struct_body, struct_plain, struct_tag, type_name, unnamed_param, void_only}
 use Rattle.grammar_laws.specs.Follow.{follow}
 use Rattle.grammar_laws.proofs.First.{assign_follow, not_assign, op_follow}
 use Rattle.grammar_laws.proofs.DeclaratorSteps.{a_cond_by, abstract_deep, array_suffix_by, declarator_deep, group_abstract_by, group_declarator_by, group_named_by, group_unnamed_by, more_params_end, more_params_turn, named_deep, named_param_by, no_cond_by, no_params_by, params_suffix_by, plain_abstract_by, plain_declarator_by, plain_named_by, plain_unnamed_by, some_params_by, suffixes_end, suffixes_turn, unnamed_deep, unnamed_param_by, void_only_by}
-use Rattle.grammar_laws.proofs.Answered.{AbstractReads, AccessReads, AccessesReads, ArgsReads, AssignReads, BinaryReads, CastReads, CondReads, DeclaratorReads, EnumReads, EnumrReads, EnumrsReads, ExprReads, MemberReads, MembersReads, MoreDeclaratorsReads, MoreEnumrsReads, MoreExprsReads, MoreMembersReads, MoreOpsReads, MoreParamsReads, MoreSpecsReads, NamedReads, OptCondReads, ParamReads, ParamsReads, PostfixReads, PrimaryReads, SizeofReads, SpecReads, SpecsReads, SteppedReads, StructReads, SuffixReads, SuffixesReads, TypeNameReads, UnaryReads, UnnamedReads}
-use Rattle.grammar_laws.proofs.ExprSteps.{a_char_by, a_name_by, a_number_by, a_sizeof_by, a_string_by, accesses_end, accesses_turn, assign_deep, assigned_by, binaries_by, called_by, cast_deep, chosen_by, cond_deep, converted_by, counted_by, expr_by, grouped_by, indexed_by, member_behind_by, member_of_by, more_exprs_end, more_exprs_turn, more_ops_end, more_ops_turn, no_args_by, only_binary_by, only_cast_by, only_cond_by, only_postfix_by, only_unary_by, postfixed_by, prefixed_by, sizeof_expr_by, sizeof_type_by, some_args_by, step_after_by, step_before_by, stepped_deep, typename_by}
+use Rattle.grammar_laws.proofs.Answered.{AbstractReads, AccessReads, AccessesReads, ArgsReads, AssignReads, BinaryReads, CastReads, CondReads, DeclaratorReads, EnumReads, EnumrReads, EnumrsReads, ExprReads, MemberReads, MembersReads, MoreCommasReads, MoreDeclaratorsReads, MoreEnumrsReads, MoreExprsReads, MoreMembersReads, MoreOpsReads, MoreParamsReads, MoreSpecsReads, NamedReads, OptCondReads, ParamReads, ParamsReads, PostfixReads, PrimaryReads, SizeofReads, SpecReads, SpecsReads, SteppedReads, StructReads, SuffixReads, SuffixesReads, TypeNameReads, UnaryReads, UnnamedReads}
+use Rattle.grammar_laws.proofs.ExprSteps.{a_char_by, a_name_by, a_number_by, a_sizeof_by, a_string_by, accesses_end, accesses_turn, assign_deep, assigned_by, binaries_by, called_by, cast_deep, chosen_by, cond_deep, converted_by, counted_by, expr_by, grouped_by, indexed_by, member_behind_by, member_of_by, more_commas_end, more_commas_turn, more_exprs_end, more_exprs_turn, more_ops_end, more_ops_turn, no_args_by, only_binary_by, only_cast_by, only_cond_by, only_postfix_by, only_unary_by, postfixed_by, prefixed_by, sizeof_expr_by, sizeof_type_by, some_args_by, step_after_by, step_before_by, stepped_deep, typename_by}
 use Rattle.grammar_laws.proofs.TypeBegins.{Ended, by_close, by_comma, ended_follow, typename_begins}
 use Rattle.grammar_laws.proofs.Steps.{next_follow, not_next, other, sign_at}
 use Rattle.grammar_laws.proofs.ExprBegins.{type_open}
 use Rattle.grammar_laws.proofs.TypeSteps.{a_struct_by, a_type_by, a_word_by, an_attr_by, an_enum_by, enum_body_by, enum_plain_by, enum_tag_by, enumr_plain_by, enumr_value_by, enumrs_by, member_by, members_by, more_declarators_end, more_declarators_turn, more_enumrs_end, more_enumrs_turn, more_members_end, more_members_turn, more_specs_end, more_specs_turn, specs_by, struct_body_by, struct_deep, struct_plain_by, struct_tag_by}
 use Rattle.grammar_laws.proofs.Attributes.{no_more, opt_comma_follow}
 use Rattle.c_lex.specs.declared.token.Punct.TheVariants as mark
+
+more_commas_follow : {names : List (List ℕ)} {ts rest : List Token} {so_far all : List After} → MoreCommas names ts so_far all rest → follow rest < 1 → follow ts < 2
+more_commas_follow no_commas lt = omega arith
+more_commas_follow (next_comma d0 d1 m) lt = omega (arith, next_follow d0)
 
 more_exprs_follow : {names : List (List ℕ)} {ts rest : List Token} {so_far all : List Expr} → MoreExprs names ts so_far all rest → follow rest < 1 → follow ts < 2
 more_exprs_follow no_expr lt = omega arith
@@ -59,7 +64,11 @@ loose e = omega (arith, ended_follow e)
 
 mutual
   pub expr_read : {names : List (List ℕ)} {ts rest : List Token} {a : Expr} (d : ExprAt names ts a rest) (n : ℕ) → follow rest < 1 → ExprReads d n
-  expr_read (exprs d0 d1) n stop = expr_by d0 d1 n (assign_read d0 n (more_exprs_follow d1 stop)) (more_exprs_read d1 n stop _ (omega arith))
+  expr_read (exprs d0 d1) n stop = expr_by d0 d1 n (assign_read d0 n (more_commas_follow d1 stop)) (more_commas_read d1 n stop _ (omega arith))
+
+  pub more_commas_read : {names : List (List ℕ)} {ts rest : List Token} {so_far all : List After} (d : MoreCommas names ts so_far all rest) (n : ℕ) → follow rest < 1 → (fuel : ℕ) → length ts ≤ fuel → MoreCommasReads d n fuel
+  more_commas_read {names = names} {ts = ts} {so_far = so_far} no_commas n stop fuel fits = more_commas_end names ts so_far n fuel stop
+  more_commas_read {so_far = so_far} (next_comma d0 d1 m) n stop fuel fits = more_commas_turn so_far d0 d1 m n fuel (assign_read d1 n (more_commas_follow m stop)) fits (λ f h. more_commas_read m n stop f h)
 
   pub more_exprs_read : {names : List (List ℕ)} {ts rest : List Token} {so_far all : List Expr} (d : MoreExprs names ts so_far all rest) (n : ℕ) → follow rest < 1 → (fuel : ℕ) → length ts ≤ fuel → MoreExprsReads d n fuel
   more_exprs_read {names = names} {ts = ts} {so_far = so_far} no_expr n stop fuel fits = more_exprs_end names ts so_far n fuel stop

@@ -11,18 +11,19 @@ use Rattle.c_ast.specs.declared.expr.UnOp.{UnOp}
 use Rattle.c_ast.specs.declared.expr.StepOp.{StepOp}
 use Rattle.c_ast.specs.declared.expr.Expr.{Expr}
 use Rattle.c_ast.specs.declared.expr.Link.{Link}
+use Rattle.c_ast.specs.declared.expr.Next.{Next as After}
 use Rattle.c_ast.specs.declared.expr.Access.{Access}
 use Rattle.c_ast.specs.declared.expr.TypeName.{TypeName}
 use Rattle.c_ast.specs.declared.expr.Spec.{Spec}
 use Rattle.c_ast.specs.declared.expr.Abstract.{Abstract}
 use Rattle.c_grammar.specs.Tokens.{access_token, assign_op_of, begins_access, begins_expr, char_of, has, is_sign, name_of, next_is, number_of, op_of, step_op, step_op_of, step_token, string_of, type_follows, un_op, un_op_of}
-use Rattle.c_grammar.specs.Grammar.{AbstractAt, AccessAt, Accesses, Args, Assign, Binary, Cast, Cond, ExprAt, MoreExprs, MoreOps, Next, Postfix, Primary, SizeofAt, SpecsAt, Stepped, Takes, TypeNameAt, Unary, a_char, a_name, a_number, a_sizeof, a_string, assigned, binaries, called, chosen, converted, counted_unary, exprs, grouped, indexed, link, member_behind, member_of, next_access, next_expr, next_op, no_access, no_args, no_expr, no_op, only_binary, only_cast, only_cond, only_postfix, only_unary, postfixed, prefixed, sizeof_expr, sizeof_type, some_args, step_after, step_before, type_name}
-use Rattle.c_grammar.specs.Reading.{levels, read_access, read_access_item, read_accesses, read_args, read_assign, read_assigned, read_binary, read_called, read_cast, read_chosen, read_cond, read_converted, read_expr, read_expr_item, read_grouped, read_indexed, read_more_exprs, read_more_ops, read_op_item, read_postfix, read_prefixed, read_primary, read_size_of, read_sizeof_expr, read_sizeof_type, read_some_args, read_step_before, read_stepped, read_typename, read_unary}
+use Rattle.c_grammar.specs.Grammar.{AbstractAt, AccessAt, Accesses, Args, Assign, Binary, Cast, Cond, ExprAt, MoreCommas, MoreExprs, MoreOps, Next, Postfix, Primary, SizeofAt, SpecsAt, Stepped, Takes, TypeNameAt, Unary, a_char, a_name, a_number, a_sizeof, a_string, after_comma, assigned, binaries, called, chosen, converted, counted_unary, exprs, grouped, indexed, link, member_behind, member_of, next_access, next_comma, next_expr, next_op, no_access, no_args, no_commas, no_expr, no_op, only_binary, only_cast, only_cond, only_postfix, only_unary, postfixed, prefixed, sizeof_expr, sizeof_type, some_args, step_after, step_before, type_name}
+use Rattle.c_grammar.specs.Reading.{levels, read_access, read_access_item, read_accesses, read_args, read_assign, read_assigned, read_binary, read_called, read_cast, read_chosen, read_comma_item, read_cond, read_converted, read_expr, read_expr_item, read_grouped, read_indexed, read_more_commas, read_more_exprs, read_more_ops, read_op_item, read_postfix, read_prefixed, read_primary, read_size_of, read_sizeof_expr, read_sizeof_type, read_some_args, read_step_before, read_stepped, read_typename, read_unary}
 use Rattle.c_grammar.specs.Nesting.{deep_expr}
 use Rattle.c_grammar.proofs.Shrinks.{access_shrinks, assign_shrinks, binary_shrinks, next_shrinks, takes_shrinks}
 use Rattle.grammar_laws.specs.Follow.{follow}
 use Rattle.grammar_laws.proofs.First.{char_at, is_new, mark_at, name_at, not_access, not_op, number_at, step_mark, string_at, un_mark}
-use Rattle.grammar_laws.proofs.Answered.{AbstractReads, AccessReads, AccessesReads, ArgsReads, AssignReads, BinaryReads, CastReads, CondReads, ExprReads, MoreExprsReads, MoreOpsReads, PostfixReads, PrimaryReads, SizeofReads, SpecsReads, SteppedReads, TypeNameReads, UnaryReads}
+use Rattle.grammar_laws.proofs.Answered.{AbstractReads, AccessReads, AccessesReads, ArgsReads, AssignReads, BinaryReads, CastReads, CondReads, ExprReads, MoreCommasReads, MoreExprsReads, MoreOpsReads, PostfixReads, PrimaryReads, SizeofReads, SpecsReads, SteppedReads, TypeNameReads, UnaryReads}
 use Rattle.grammar_laws.proofs.Steps.{and_last, and_so, done, ends, if_not, if_so, next_expect, next_test, not_next, other, read_by, sign_at, step, takes_take, takes_test, too_deep, turns}
 use Rattle.grammar_laws.proofs.ExprBegins.{assign_begins, cast_begins, cond_begins, postfix_no_step, postfix_no_un, sizeof_no_step, stepped_step, unary_no_type}
 use Rattle.c_lex.specs.declared.token.Keyword.TheVariants as word
@@ -30,10 +31,20 @@ use Rattle.c_lex.specs.declared.token.Punct.TheVariants as mark
 
 -- ---- expr, assign, cond
 
-pub expr_by : {names : List (List ℕ)} {ts r1 rest : List Token} {a : Expr} {more : List Expr} (d0 : Assign names ts a r1) (d1 : MoreExprs names r1 [] more rest) (n : ℕ) →
-    AssignReads d0 n → MoreExprsReads d1 n (length r1) → ExprReads (exprs d0 d1) n
-unfolding read_expr read_more_exprs deep_expr
+pub expr_by : {names : List (List ℕ)} {ts r1 rest : List Token} {a : Expr} {more : List After} (d0 : Assign names ts a r1) (d1 : MoreCommas names r1 [] more rest) (n : ℕ) →
+    AssignReads d0 n → MoreCommasReads d1 n (length r1) → ExprReads (exprs d0 d1) n
+unfolding read_expr read_more_commas deep_expr
 expr_by d0 d1 n p q = and_so _ p (and_last _ q done)
+
+pub more_commas_turn : {names : List (List ℕ)} {ts r1 r2 rest : List Token} {k : Place} {b : Expr} (so_far : List After) {all : List After}
+    (d0 : Next (Mark mark.Comma) ts k r1) (d1 : Assign names r1 b r2) (m : MoreCommas names r2 (so_far ++ after_comma k b ∷ []) all rest) (n fuel : ℕ) →
+    AssignReads d1 n → length ts ≤ fuel → ((f : ℕ) → length r2 ≤ f → MoreCommasReads m n f) → MoreCommasReads (next_comma d0 d1 m) n fuel
+unfolding read_comma_item deep_expr
+more_commas_turn so_far d0 d1 m n fuel p fits rec = turns _ _ fuel (next_test d0) (step _ (next_expect d0) (and_last _ p done)) (omega (arith, next_shrinks d0, assign_shrinks d1)) fits rec
+
+pub more_commas_end : (names : List (List ℕ)) (ts : List Token) (so_far : List After) (n fuel : ℕ) → follow ts < 1 → MoreCommasReads {names = names} {ts = ts} {rest = ts} {so_far = so_far} {all = so_far} no_commas n fuel
+unfolding deep_expr
+more_commas_end names ts so_far n fuel stop = ends _ _ fuel so_far ts (not_next (Mark mark.Comma) ts stop)
 
 pub more_exprs_turn : {names : List (List ℕ)} {ts r1 r2 rest : List Token} {k : Place} {b : Expr} (so_far : List Expr) {all : List Expr}
     (d0 : Next (Mark mark.Comma) ts k r1) (d1 : Assign names r1 b r2) (m : MoreExprs names r2 (so_far ++ b ∷ []) all rest) (n fuel : ℕ) →

@@ -3,6 +3,7 @@ use Rattle.std.proofs.Common.{List, None, Option, Some, [], ap, arith, refl, suc
 use Rattle.c_lex.specs.declared.token.Token.{Token}
 use Rattle.c_ast.specs.declared.expr.Expr.{Expr}
 use Rattle.c_ast.specs.declared.expr.Link.{Link}
+use Rattle.c_ast.specs.declared.expr.Next.{Next as After}
 use Rattle.c_ast.specs.declared.expr.Access.{Access}
 use Rattle.c_ast.specs.declared.expr.TypeName.{TypeName}
 use Rattle.c_ast.specs.declared.expr.Spec.{Spec}
@@ -26,9 +27,9 @@ use Rattle.c_ast.specs.declared.stmt.Part.{Part}
 use Rattle.c_ast.specs.declared.stmt.Stmt.{Stmt}
 use Rattle.c_ast.specs.declared.stmt.Function.{Function}
 use Rattle.c_ast.specs.declared.stmt.External.{External}
-use Rattle.c_grammar.specs.Grammar.{AbstractAt, AccessAt, Accesses, Args, Assign, Binary, Cast, Cond, DeclaratorAt, EnumAt, EnumrAt, Enumrs, ExprAt, MemberAt, Members, MoreDeclarators, MoreEnumrs, MoreExprs, MoreMembers, MoreOps, MoreParams, MoreSpecs, OptCond, ParamAt, ParamsAt, Postfix, Primary, SizeofAt, SpecAt, SpecsAt, Stepped, StructAt, SuffixAt, Suffixes, TypeNameAt, Unary, a_char, a_cond, a_member, a_name, a_number, a_sizeof, a_string, a_struct, a_type, a_word, an_attr, an_enum, array_suffix, assigned, binaries, braced_enumrs, braced_members, called, chosen, converted, counted_unary, enum_body, enum_plain, enum_tag, enumr_plain, enumr_value, exprs, group_abstract, group_declarator, grouped, indexed, member_behind, member_of, named_param, next_access, next_declarator, next_enumr, next_expr, next_member, next_op, next_param, next_spec, next_suffix, no_access, no_args, no_cond, no_declarator, no_enumr, no_expr, no_member, no_op, no_param, no_params, no_spec, no_suffix, only_binary, only_cast, only_cond, only_postfix, only_unary, params_suffix, plain_abstract, plain_declarator, postfixed, prefixed, sizeof_expr, sizeof_type, some_args, some_params, some_specs, step_after, step_before, struct_body, struct_plain, struct_tag, type_name, unnamed_param, void_only}
+use Rattle.c_grammar.specs.Grammar.{AbstractAt, AccessAt, Accesses, Args, Assign, Binary, Cast, Cond, DeclaratorAt, EnumAt, EnumrAt, Enumrs, ExprAt, MemberAt, Members, MoreCommas, MoreDeclarators, MoreEnumrs, MoreExprs, MoreMembers, MoreOps, MoreParams, MoreSpecs, OptCond, ParamAt, ParamsAt, Postfix, Primary, SizeofAt, SpecAt, SpecsAt, Stepped, StructAt, SuffixAt, Suffixes, TypeNameAt, Unary, a_char, a_cond, a_member, a_name, a_number, a_sizeof, a_string, a_struct, a_type, a_word, an_attr, an_enum, array_suffix, assigned, binaries, braced_enumrs, braced_members, called, chosen, converted, counted_unary, enum_body, enum_plain, enum_tag, enumr_plain, enumr_value, exprs, group_abstract, group_declarator, grouped, indexed, member_behind, member_of, named_param, next_access, next_comma, next_declarator, next_enumr, next_expr, next_member, next_op, next_param, next_spec, next_suffix, no_access, no_args, no_commas, no_cond, no_declarator, no_enumr, no_expr, no_member, no_op, no_param, no_params, no_spec, no_suffix, only_binary, only_cast, only_cond, only_postfix, only_unary, params_suffix, plain_abstract, plain_declarator, postfixed, prefixed, sizeof_expr, sizeof_type, some_args, some_params, some_specs, step_after, step_before, struct_body, struct_plain, struct_tag, type_name, unnamed_param, void_only}
 use Rattle.c_grammar.specs.Units.{BlockAt, DeclAt, Derives, FirstAt, FunctionAt, InitAt, InitialAt, ItemAt, Items, LabelAt, MoreInitials, MoreInits, OptExpr, PartAt, Parts, StmtAt, UnitAt, a_function, an_expr, assign_initial, bare_decl, block_stmt, braced_initial, braces, break_stmt, case_label, continue_stmt, decl_item, decl_part, default_label, do_stmt, empty_stmt, expr_stmt, first_decl, first_expr, for_stmt, if_else, if_only, init_plain, init_value, inits_decl, label_part, next_init, next_initial, next_item, next_part, no_init, no_initial, no_item, no_part, return_stmt, stmt_item, stmt_part, switch_stmt, unit_decl, unit_end, unit_function, unit_include, while_stmt, without_expr}
-use Rattle.c_grammar.specs.Nesting.{deep_access, deep_accesses, deep_args, deep_assign, deep_binary, deep_block, deep_cast, deep_cond, deep_decl, deep_declarator, deep_enumr, deep_enumrs, deep_enums, deep_expr, deep_first, deep_function, deep_init, deep_initial, deep_item, deep_items, deep_label, deep_member, deep_members, deep_more_declarators, deep_more_enumrs, deep_more_exprs, deep_more_initials, deep_more_inits, deep_more_members, deep_more_ops, deep_more_params, deep_more_specs, deep_nameless, deep_opt_cond, deep_opt_expr, deep_param, deep_params, deep_part, deep_parts, deep_postfix, deep_primary, deep_size_of, deep_spec, deep_specs, deep_stepped, deep_stmt, deep_structs, deep_suffix, deep_suffixes, deep_typename, deep_unary, deep_unit, earlier}
+use Rattle.c_grammar.specs.Nesting.{deep_access, deep_accesses, deep_args, deep_assign, deep_binary, deep_block, deep_cast, deep_cond, deep_decl, deep_declarator, deep_enumr, deep_enumrs, deep_enums, deep_expr, deep_first, deep_function, deep_init, deep_initial, deep_item, deep_items, deep_label, deep_member, deep_members, deep_more_commas, deep_more_declarators, deep_more_enumrs, deep_more_exprs, deep_more_initials, deep_more_inits, deep_more_members, deep_more_ops, deep_more_params, deep_more_specs, deep_nameless, deep_opt_cond, deep_opt_expr, deep_param, deep_params, deep_part, deep_parts, deep_postfix, deep_primary, deep_size_of, deep_spec, deep_specs, deep_stepped, deep_stmt, deep_structs, deep_suffix, deep_suffixes, deep_typename, deep_unary, deep_unit, earlier}
 use Rattle.grammar_laws.proofs.UnitComplete.{unit_read}
 use Rattle.grammar_laws.proofs.Steps.{answer}
 
@@ -53,7 +54,11 @@ mutual
   unfolding deep_expr
 
   pub shallow_expr : {names : List (List ℕ)} {ts rest : List Token} {a : Expr} (d : ExprAt names ts a rest) → Shallow (λ n. deep_expr d n)
-  shallow_expr (exprs d0 d1) = both (shallow_assign d0) (shallow_more_exprs d1)
+  shallow_expr (exprs d0 d1) = both (shallow_assign d0) (shallow_more_commas d1)
+
+  pub shallow_more_commas : {names : List (List ℕ)} {ts rest : List Token} {so_far all : List After} (d : MoreCommas names ts so_far all rest) → Shallow (λ n. deep_more_commas d n)
+  shallow_more_commas no_commas = no_level
+  shallow_more_commas (next_comma _ d1 m) = both (shallow_assign d1) (shallow_more_commas m)
 
   pub shallow_more_exprs : {names : List (List ℕ)} {ts rest : List Token} {so_far all : List Expr} (d : MoreExprs names ts so_far all rest) → Shallow (λ n. deep_more_exprs d n)
   shallow_more_exprs no_expr = no_level

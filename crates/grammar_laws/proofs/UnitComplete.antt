@@ -1,5 +1,5 @@
 -- The unit that the tokens derive is read.
-use Rattle.std.proofs.Common.{List, None, Option, Some, [], ap, arith, false, length, refl, subst, true, ℕ, ◌≡◌, ◌<◌, ◌≤◌, ◌∷◌, ◌++◌}
+use Rattle.std.proofs.Common.{List, None, Option, Some, [], arith, false, length, refl, true, ℕ, ◌≡◌, ◌<◌, ◌≤◌, ◌∷◌, ◌++◌}
 use Rattle.cm_base.specs.declared.place.Place.{Place}
 use Rattle.c_lex.specs.declared.token.Header.{Header}
 use Rattle.c_lex.specs.declared.token.Token.{Token}
@@ -13,7 +13,7 @@ use Rattle.c_ast.specs.declared.stmt.Decl.{Decl}
 use Rattle.c_ast.specs.declared.stmt.Block.{Block}
 use Rattle.c_ast.specs.declared.stmt.Function.{Function}
 use Rattle.c_ast.specs.declared.stmt.External.{External}
-use Rattle.c_grammar.specs.Tokens.{begins_spec, include_of, is_sign}
+use Rattle.c_grammar.specs.Tokens.{begins_spec, include_of, is_sign, with_names}
 use Rattle.c_grammar.specs.Grammar.{Attrs, DeclaratorAt, Next, SpecsAt, Takes}
 use Rattle.c_grammar.specs.Units.{BlockAt, DeclAt, Derives, FunctionAt, InitialAt, MoreInits, UnitAt, a_function, bare_decl, braces, declared, header_names, init_plain, init_value, inits_decl, unit_decl, unit_end, unit_function, unit_include}
 use Rattle.c_grammar.specs.Reading.{is_some_token, levels, read_after_attrs, read_after_specs, read_attrs, read_bare, read_declared, read_external, read_function_body, read_include, read_init_end, read_init_value, read_more_inits, read_no_include, read_other_inits, read_part_of_unit, read_unit, repeat}
@@ -104,31 +104,22 @@ some_token [] r lt = absurd (omega arith)
 some_token (k ∷ ts) r lt = refl
 
 include_part : {ts rest : List Token} {h : Place × Header} (d0 : Takes include_of ts h rest) (n : ℕ) (names : List (List ℕ)) (so_far : List External) →
-    Answers (read_part_of_unit n (names, so_far) ts) None ((names ++ header_names h.1, so_far ++ external.Include h.0 h.1 ∷ []), rest)
+    Answers (read_part_of_unit n (names, so_far) ts) None ((with_names names (header_names h.1), so_far ++ external.Include h.0 h.1 ∷ []), rest)
 unfolding read_part_of_unit read_include
 include_part d0 n names so_far = if_so _ (takes_test d0) (step _ (takes_take d0) done)
 
 decl_part_of : {names : List (List ℕ)} {ts rest : List Token} {a : Decl} (d : DeclAt names ts a rest) (n : ℕ) (so_far : List External) →
-    Answers (read_part_of_unit n (names, so_far) ts) (deep_decl d n) ((names ++ declared a, so_far ++ external.Decl a ∷ []), rest)
+    Answers (read_part_of_unit n (names, so_far) ts) (deep_decl d n) ((with_names names (declared a), so_far ++ external.Decl a ∷ []), rest)
 unfolding read_part_of_unit read_no_include
 decl_part_of {names = names} {ts = ts} d n so_far = if_not _ (spec_no_include names ts (decl_begins d)) (and_last _ (decl_external d n) done)
 
 function_begins : {names : List (List ℕ)} {ts rest : List Token} {a : Function} → FunctionAt names ts a rest → begins_spec names ts ≡ true
 function_begins (a_function d0 d1 d2 d3) = specs_begins d0
 
-function_part_of : {names : List (List ℕ)} {ts rest : List Token} {a : Function} (d : FunctionAt names ts a rest) (n : ℕ) (so_far : List External) →
-    Answers (read_part_of_unit n (names, so_far) ts) (deep_function d n) ((names ++ [], so_far ++ external.Function a ∷ []), rest)
-unfolding read_part_of_unit read_no_include
-function_part_of {names = names} {ts = ts} d n so_far = if_not _ (spec_no_include names ts (function_begins d)) (and_last _ (function_read d n) done)
-
-nothing_more : (names : List (List ℕ)) → names ++ [] ≡ names
-nothing_more [] = refl
-nothing_more (x ∷ xs) = ap (λ r. x ∷ r) (nothing_more xs)
-
 function_part : {names : List (List ℕ)} {ts rest : List Token} {a : Function} (d : FunctionAt names ts a rest) (n : ℕ) (so_far : List External) →
     Answers (read_part_of_unit n (names, so_far) ts) (deep_function d n) ((names, so_far ++ external.Function a ∷ []), rest)
-function_part {names = names} {ts = ts} {rest = rest} {a = a} d n so_far =
-    subst (λ l. Answers (read_part_of_unit n (names, so_far) ts) (deep_function d n) ((l, so_far ++ external.Function a ∷ []), rest)) (nothing_more names) (function_part_of d n so_far)
+unfolding read_part_of_unit read_no_include
+function_part {names = names} {ts = ts} d n so_far = if_not _ (spec_no_include names ts (function_begins d)) (and_last _ (function_read d n) done)
 
 pub unit_reads : {names : List (List ℕ)} {ts : List Token} {so_far all : List External} (d : UnitAt names ts so_far all) (n : ℕ) → UnitReads d n
 unfolding deep_unit

@@ -13,7 +13,7 @@ fn show(out: &mut String, token: &Token) -> Result<(), AllocError> {
     write!(out, " {line}:{col}=")?;
     match &token.kind {
         Kind::Name(name) => {
-            let len = name.len();
+            let len = name.as_slice().len();
             write!(out, "name{len}")
         }
         Kind::Word(word) => write!(out, "{word:?}"),

@@ -1,6 +1,9 @@
 //! Texts and what they are parsed as. The answers are worked out from the rules of the language.
 
-use c_ast::{Expr, External, Item, Stmt, Unit};
+use c_ast::{
+    Access, Decl, EnumSpec, Expr, External, First, ForHead, Item, NumberType, Spec, Stmt,
+    StructSpec, Unit, first_place, initial_place, specs_place,
+};
 use c_lex::{MAX_SOURCE, lex};
 use c_parse::{SyntaxFault, parse};
 use std::alloc::{AllocError, Global};
@@ -148,7 +151,7 @@ fn expressions(rt: HostRuntime) -> Result<(), Fail> {
 /// The first statement of the first function.
 fn first_stmt(unit: &Unit) -> Option<&Stmt> {
     match unit.parts.get(0) {
-        Some(External::Function(function)) => match function.body.items.get(0) {
+        Some(External::Function(function)) => match function.get().body.items.get(0) {
             Some(Item::Stmt(stmt)) => Some(stmt),
             _ => None,
         },
@@ -180,6 +183,163 @@ fn trees(rt: HostRuntime) -> Result<(), Fail> {
     assert!(rt; first_stmt(&dangling).is_some_and(has_inner_else));
     let flat = parsed(alloc, "void f(int a) { a - a - a; }")?;
     assert!(rt; first_stmt(&flat).is_some_and(is_flat));
+    Ok(())
+}
+
+/// The column of what is done to an expression.
+fn access_col(access: &Access) -> u32 {
+    match access {
+        Access::Index(place, _) => place.col,
+        Access::Call(place, _) => place.col,
+        Access::Member(place, _) => place.col,
+        Access::Arrow(place, _) => place.col,
+        Access::Step(place, _) => place.col,
+    }
+}
+
+/// The columns of the first two operators of an expression, 0 where it has fewer.
+fn operators(expr: &Expr) -> (u32, u32) {
+    match expr {
+        Expr::Binary(_, more) => (
+            more.get(0).map_or(0, |link| link.place.col),
+            more.get(1).map_or(0, |link| link.place.col),
+        ),
+        Expr::Comma(_, more) => (
+            more.get(0).map_or(0, |next| next.place.col),
+            more.get(1).map_or(0, |next| next.place.col),
+        ),
+        Expr::Postfix(_, more) => (
+            more.get(0).map_or(0, access_col),
+            more.get(1).map_or(0, access_col),
+        ),
+        Expr::Step(place, _, _) => (place.col, 0),
+        Expr::Unary(place, _, _) => (place.col, 0),
+        Expr::Choice(place, _, _, _) => (place.col, 0),
+        Expr::Assign(place, _, _, _) => (place.col, 0),
+        _ => (0, 0),
+    }
+}
+
+/// Whether the expression of the first statement begins at column 16 and has its operators at these columns.
+fn placed(alloc: Global, text: &str, first: u32, second: u32) -> bool {
+    match parsed(alloc, text) {
+        Ok(unit) => match first_stmt(&unit) {
+            Some(Stmt::Expr(expr)) => first_place(expr).col == 16
+                && operators(expr) == (first, second),
+            _ => false,
+        },
+        Err(_fault) => false,
+    }
+}
+
+#[test]
+fn places_of_operators(rt: HostRuntime) -> Result<(), Fail> {
+    let alloc = rt.alloc();
+    assert!(rt; placed(alloc, "void f(void) { a - b - c; }", 18, 22));
+    assert!(rt; placed(alloc, "void f(void) { a , bc, d; }", 18, 22));
+    assert!(rt; placed(alloc, "void f(void) { a [1] . b; }", 18, 22));
+    assert!(rt; placed(alloc, "void f(void) { a (1)->b; }", 18, 21));
+    assert!(rt; placed(alloc, "void f(void) { a ++ --; }", 18, 21));
+    assert!(rt; placed(alloc, "void f(void) { a = b = c; }", 18, 0));
+    assert!(rt; placed(alloc, "void f(void) { a + b ? c : d; }", 22, 0));
+    assert!(rt; placed(alloc, "void f(void) { -a * b; }", 19, 0));
+    assert!(rt; placed(alloc, "void f(void) { (int)a + b; }", 23, 0));
+    assert!(rt; placed(alloc, "void f(void) { sizeof (int) + b; }", 29, 0));
+    assert!(rt; placed(alloc, "void f(void) { ++ a; }", 16, 0));
+    assert!(rt; placed(alloc, "void f(void) { (a); }", 0, 0));
+    assert!(rt; placed(alloc, "void f(void) { \"s\", 1; }", 19, 0));
+    Ok(())
+}
+
+/// The columns of the three parts between the parentheses of a `for`.
+fn head_cols(head: &ForHead) -> (u32, u32, u32) {
+    let first = match head.first.get() {
+        First::Expr(Some(expr)) => first_place(expr.get()).col,
+        _ => 0,
+    };
+    let test = head.test.as_ref().map_or(0, |expr| first_place(expr.get()).col);
+    let step = head.step.as_ref().map_or(0, |expr| first_place(expr.get()).col);
+    (first, test, step)
+}
+
+/// The first declaration.
+fn first_decl(unit: &Unit) -> Option<&Decl> {
+    match unit.parts.get(0) {
+        Some(External::Decl(decl)) => Some(decl),
+        _ => None,
+    }
+}
+
+/// The columns of a declaration's specifiers and of its first initialiser, 0 where there is none.
+fn decl_cols(decl: &Decl) -> (u32, u32) {
+    let specs = specs_place(decl.specs.as_slice()).map_or(0, |place| place.col);
+    let value = match decl.inits.get(0) {
+        Some(init) => match &init.value {
+            Some(value) => initial_place(value.get()).col,
+            None => 0,
+        },
+        None => 0,
+    };
+    (specs, value)
+}
+
+/// The columns of a specifier's word and of its tag, 0 where there is none.
+fn tag_cols(spec: &Spec) -> (u32, u32) {
+    match spec {
+        Spec::Struct(found) => match found.get() {
+            StructSpec::Body(place, tag, _) => (place.col, tag.as_ref().map_or(0, |name| name.place.col)),
+            StructSpec::Tag(place, name) => (place.col, name.place.col),
+        },
+        Spec::Enum(found) => match found.get() {
+            EnumSpec::Body(place, tag, _) => (place.col, tag.as_ref().map_or(0, |name| name.place.col)),
+            EnumSpec::Tag(place, name) => (place.col, name.place.col),
+        },
+        _ => (0, 0),
+    }
+}
+
+/// Whether the specifiers and the first initialiser of the first declaration stand at these columns, and the word and the tag
+/// of its first specifier.
+fn declared(alloc: Global, text: &str, parts: (u32, u32), tag: (u32, u32)) -> bool {
+    match parsed(alloc, text) {
+        Ok(unit) => match first_decl(&unit) {
+            Some(decl) => decl_cols(decl) == parts
+                && decl.specs.get(0).map_or((0, 0), tag_cols) == tag,
+            None => false,
+        },
+        Err(_fault) => false,
+    }
+}
+
+#[test]
+fn places_of_parts(rt: HostRuntime) -> Result<(), Fail> {
+    let alloc = rt.alloc();
+    assert!(rt; declared(alloc, " int a = b + 1;", (2, 10), (0, 0)));
+    assert!(rt; declared(alloc, " const int a[1] = { 1 };", (2, 19), (0, 0)));
+    assert!(rt; declared(alloc, " struct { int x; } a;", (2, 0), (2, 0)));
+    assert!(rt; declared(alloc, " struct s { int x; } a;", (2, 0), (2, 9)));
+    assert!(rt; declared(alloc, " struct s a = { 1 };", (2, 15), (2, 9)));
+    assert!(rt; declared(alloc, " enum { A } a;", (2, 0), (2, 0)));
+    assert!(rt; declared(alloc, " enum e a = 1;", (2, 13), (2, 7)));
+    let turns = parsed(alloc, "void f(void) { for (a = 1; a < 2; a++) ; }")?;
+    match first_stmt(&turns) {
+        Some(Stmt::For(place, head, _)) => {
+            assert!(rt; place.col == 16);
+            assert!(rt; head_cols(head) == (21, 28, 35));
+        }
+        _ => assert!(rt; false),
+    }
+    let number = parsed(alloc, "void f(void) { 7ul; }")?;
+    match first_stmt(&number) {
+        Some(Stmt::Expr(Expr::Number(place, value, number_type))) => {
+            let expected = NumberType {
+                unsigned: true,
+                long: true,
+            };
+            assert!(rt; place.col == 16 && *value == 7 && *number_type == expected);
+        }
+        _ => assert!(rt; false),
+    }
     Ok(())
 }
 

@@ -7,6 +7,11 @@ use Rattle.c_grammar.specs.Reading as spec
 use Rattle.c_nodes.proofs.LevelLaws.{goes_on}
 use Rattle.c_exprs.proofs.+syntax.Goals as goal
 
+pub exprs::more_commas-loop-preserved : goal.exprs::more_commas-loop-preserved
+exprs::more_commas-loop-preserved t c =
+    let h : (next_is (Mark mark.Comma)) c.loop.rest.now ≡ true = search rules in
+    goes_on (next_is (Mark mark.Comma)) (spec.read_comma_item c.args.names.now (levels c.args.names.now c.args.left)) (length c.args.ts.now) c.loop.counter _ _ _ _ _ c.loop-test.true h c.in_ok-more.ensures c.loop.invariant
+
 pub exprs::more_exprs-loop-preserved : goal.exprs::more_exprs-loop-preserved
 exprs::more_exprs-loop-preserved t c =
     let h : (next_is (Mark mark.Comma)) c.loop.rest.now ≡ true = search rules in

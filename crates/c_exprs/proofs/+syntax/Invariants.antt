@@ -9,6 +9,12 @@ use Rattle.c_exprs.proofs.+syntax.Given as goal
 abbrev pub decreases-exprs::expr : goal.decreases-exprs::expr
 decreases-exprs::expr l = l.left * 64 + 3
 
+abbrev pub decreases-exprs::comma_item : goal.decreases-exprs::comma_item
+decreases-exprs::comma_item l = l.left * 64 + 1
+
+abbrev pub decreases-exprs::more_commas : goal.decreases-exprs::more_commas
+decreases-exprs::more_commas l = l.left * 64 + 2
+
 abbrev pub decreases-exprs::expr_item : goal.decreases-exprs::expr_item
 decreases-exprs::expr_item l = l.left * 64 + 1
 
@@ -218,6 +224,9 @@ decreases-declarators::nameless l = l.left * 64 + 0
 
 abbrev pub decreases-declarators::group_abstract : goal.decreases-declarators::group_abstract
 decreases-declarators::group_abstract l = l.left * 64 + 21
+
+abbrev pub invariant-exprs::more_commas-loop : goal.invariant-exprs::more_commas-loop
+invariant-exprs::more_commas-loop l = spec.repeat (next_is (Mark mark.Comma)) (spec.read_comma_item l.names (levels l.names l.left)) (length l.fn.ts - l.counter) l.all l.rest ≡ spec.repeat (next_is (Mark mark.Comma)) (spec.read_comma_item l.names (levels l.names l.left)) (length l.fn.ts) l.fn.so_far l.fn.ts
 
 abbrev pub invariant-exprs::more_exprs-loop : goal.invariant-exprs::more_exprs-loop
 invariant-exprs::more_exprs-loop l = spec.repeat (next_is (Mark mark.Comma)) (spec.read_expr_item l.names (levels l.names l.left)) (length l.fn.ts - l.counter) l.all l.rest ≡ spec.repeat (next_is (Mark mark.Comma)) (spec.read_expr_item l.names (levels l.names l.left)) (length l.fn.ts) l.fn.so_far l.fn.ts
