@@ -6,4 +6,4 @@ mod operators;
 mod words;
 
 pub use fold::{constant, is_null_constant};
-pub use operators::{narrowed, operate, operate_one};
+pub use operators::{is_signed, narrowed, operate, operate_one};
