@@ -1,0 +1,2 @@
+pub mod Operate
+pub mod Constant

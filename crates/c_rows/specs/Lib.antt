@@ -1,0 +1,12 @@
+pub mod Answers
+pub mod Nodes
+pub mod Values
+pub mod Constants
+pub mod Arithmetic
+pub mod Pointers
+pub mod Compare
+pub mod Logic
+pub mod Access
+pub mod Assign
+pub mod Calls
+pub mod Intrinsics
