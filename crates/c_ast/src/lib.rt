@@ -10,7 +10,8 @@ pub mod stmt;
 
 pub use expr::{
     Abstract, Access, AssignOp, Attr, BinOp, Declarator, EnumSpec, Enumerator, Expr, Link, Member,
-    Name, Next, NumberType, One, Param, Params, Spec, SpecWord, Star, StepOp, StructSpec, Suffix, TypeName, UnOp,
+    Name, Next, NumberType, One, Param, Params, Spec, SpecWord, Star, StepOp, StructSpec, Suffix,
+    TypeName, UnOp,
 };
 pub use places::{first_place, initial_place, spec_place, specs_place};
 pub use stmt::{
