@@ -142,7 +142,12 @@ fn suffix<'a>(alloc: Global, names: &TypeNames, left: usize, ts: &'a [Token]) ->
 /// "[" [ cond ] "]"
 #[cycle(syntax)]
 #[tactic(auto, unfolding(c_grammar::specs::Reading::read_array_suffix))]
-fn array_suffix<'a>(alloc: Global, names: &TypeNames, left: usize, ts: &'a [Token]) -> Read<'a, Suffix>
+fn array_suffix<'a>(
+    alloc: Global,
+    names: &TypeNames,
+    left: usize,
+    ts: &'a [Token],
+) -> Read<'a, Suffix>
     ensures { Gives (λ x. (x.0, x.1.now)) result (spec.read_array_suffix names.now (spec.levels names.now left) ts.now) }
 {
     let (place, rest) = expect(ts, Sign::Mark(Punct::BracketOpen))?;
@@ -205,7 +210,12 @@ fn params<'a>(alloc: Global, names: &TypeNames, left: usize, ts: &'a [Token]) ->
 /// param { "," param }
 #[cycle(syntax)]
 #[tactic(auto, unfolding(c_grammar::specs::Reading::read_some_params))]
-fn some_params<'a>(alloc: Global, names: &TypeNames, left: usize, ts: &'a [Token]) -> Read<'a, Params>
+fn some_params<'a>(
+    alloc: Global,
+    names: &TypeNames,
+    left: usize,
+    ts: &'a [Token],
+) -> Read<'a, Params>
     ensures { Gives (λ x. (x.0, x.1.now)) result (spec.read_some_params names.now (spec.levels names.now left) ts.now) }
 {
     let (first, rest) = param(alloc, names, left, ts)?;

@@ -325,7 +325,12 @@ fn converted<'a>(
 /// | "sizeof" ( unary | "(" typename ")" ) | postfix
 #[cycle(syntax)]
 #[tactic(auto, unfolding(c_grammar::specs::Reading::read_unary))]
-fn unary<'a>(alloc: Global, names: &TypeNames, left: usize, ts: &'a [Token]) -> Read<'a, Boxed<Expr>>
+fn unary<'a>(
+    alloc: Global,
+    names: &TypeNames,
+    left: usize,
+    ts: &'a [Token],
+) -> Read<'a, Boxed<Expr>>
     ensures { Gives (λ x. (x.0, x.1.now)) result (spec.read_unary names.now (spec.levels names.now left) ts.now) }
 {
     if begins_step(ts) {
@@ -356,7 +361,12 @@ fn prefixed<'a>(
 /// ( "++" | "--" ) unary | "sizeof" ( unary | "(" typename ")" )
 #[cycle(syntax)]
 #[tactic(auto, using(c_nodes::proofs::LevelLaws::stepped_rules), unfolding(c_grammar::specs::Reading::read_stepped))]
-fn stepped<'a>(alloc: Global, names: &TypeNames, left: usize, ts: &'a [Token]) -> Read<'a, Boxed<Expr>>
+fn stepped<'a>(
+    alloc: Global,
+    names: &TypeNames,
+    left: usize,
+    ts: &'a [Token],
+) -> Read<'a, Boxed<Expr>>
     ensures { Gives (λ x. (x.0, x.1.now)) result ((spec.levels names.now left).stepped ts.now) }
 {
     if left == 0 {
@@ -388,7 +398,12 @@ fn step_before<'a>(
 /// "sizeof" ( unary | "(" typename ")" )
 #[cycle(syntax)]
 #[tactic(auto, unfolding(c_grammar::specs::Reading::read_size_of))]
-fn size_of<'a>(alloc: Global, names: &TypeNames, left: usize, ts: &'a [Token]) -> Read<'a, Boxed<Expr>>
+fn size_of<'a>(
+    alloc: Global,
+    names: &TypeNames,
+    left: usize,
+    ts: &'a [Token],
+) -> Read<'a, Boxed<Expr>>
     ensures { Gives (λ x. (x.0, x.1.now)) result (spec.read_size_of names.now (spec.levels names.now left) ts.now) }
 {
     let (place, rest) = expect(ts, Sign::Word(Keyword::Sizeof))?;
@@ -435,7 +450,12 @@ fn sizeof_expr<'a>(
 /// postfix = primary { "[" expr "]" | "(" [ assign { "," assign } ] ")" | "." NAME | "->" NAME | "++" | "--" }
 #[cycle(syntax)]
 #[tactic(auto, unfolding(c_grammar::specs::Reading::read_postfix))]
-fn postfix<'a>(alloc: Global, names: &TypeNames, left: usize, ts: &'a [Token]) -> Read<'a, Boxed<Expr>>
+fn postfix<'a>(
+    alloc: Global,
+    names: &TypeNames,
+    left: usize,
+    ts: &'a [Token],
+) -> Read<'a, Boxed<Expr>>
     ensures { Gives (λ x. (x.0, x.1.now)) result (spec.read_postfix names.now (spec.levels names.now left) ts.now) }
 {
     let (first, rest) = primary(alloc, names, left, ts)?;
@@ -566,7 +586,12 @@ fn some_args<'a>(
 /// primary = NAME | NUMBER | CHAR | STRING | "(" expr ")"
 #[cycle(syntax)]
 #[tactic(auto, unfolding(c_grammar::specs::Reading::read_primary))]
-fn primary<'a>(alloc: Global, names: &TypeNames, left: usize, ts: &'a [Token]) -> Read<'a, Boxed<Expr>>
+fn primary<'a>(
+    alloc: Global,
+    names: &TypeNames,
+    left: usize,
+    ts: &'a [Token],
+) -> Read<'a, Boxed<Expr>>
     ensures { Gives (λ x. (x.0, x.1.now)) result (spec.read_primary names.now (spec.levels names.now left) ts.now) }
 {
     if next_is_name(names, ts) {
@@ -591,7 +616,12 @@ fn primary<'a>(alloc: Global, names: &TypeNames, left: usize, ts: &'a [Token]) -
 /// "(" expr ")"
 #[cycle(syntax)]
 #[tactic(auto, unfolding(c_grammar::specs::Reading::read_grouped))]
-fn grouped<'a>(alloc: Global, names: &TypeNames, left: usize, ts: &'a [Token]) -> Read<'a, Boxed<Expr>>
+fn grouped<'a>(
+    alloc: Global,
+    names: &TypeNames,
+    left: usize,
+    ts: &'a [Token],
+) -> Read<'a, Boxed<Expr>>
     ensures { Gives (λ x. (x.0, x.1.now)) result (spec.read_grouped names.now (spec.levels names.now left) ts.now) }
 {
     let (place, rest) = expect(ts, Sign::Mark(Punct::ParenOpen))?;

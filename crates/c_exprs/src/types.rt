@@ -287,7 +287,12 @@ fn more_declarators<'a>(
 /// enum = "enum" [ NAME ] "{" enumr { "," enumr } [ "," ] "}" | "enum" NAME
 #[cycle(syntax)]
 #[tactic(auto, unfolding(c_grammar::specs::Reading::read_enums))]
-fn enum_spec<'a>(alloc: Global, names: &TypeNames, left: usize, ts: &'a [Token]) -> Read<'a, Boxed<EnumSpec>>
+fn enum_spec<'a>(
+    alloc: Global,
+    names: &TypeNames,
+    left: usize,
+    ts: &'a [Token],
+) -> Read<'a, Boxed<EnumSpec>>
     ensures { Gives (λ x. (x.0, x.1.now)) result (spec.read_enums names.now (spec.levels names.now left) ts.now) }
 {
     let (place, rest) = expect(ts, Sign::Word(Keyword::Enum))?;

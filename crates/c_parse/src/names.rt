@@ -71,11 +71,7 @@ fn add_decl(names: &mut TypeNames, decl: &Decl, alloc: Global) -> Result<(), NoM
 }
 
 /// Adds the names of types that a declaration of file scope declares.
-pub fn add_declared(
-    names: &mut TypeNames,
-    part: &External,
-    alloc: Global,
-) -> Result<(), NoMemory>
+pub fn add_declared(names: &mut TypeNames, part: &External, alloc: Global) -> Result<(), NoMemory>
     ensures { OnOk result (names.new ≡ with_names names.old (spec.added part.now)) }
 {
     match part {

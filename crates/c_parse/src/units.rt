@@ -136,7 +136,12 @@ fn after_specs<'a>(
 
 /// decl | function, where function = specs declarator { attr } block
 #[tactic(auto, unfolding(c_grammar::specs::Reading::read_external))]
-fn external<'a>(alloc: Global, names: &TypeNames, left: usize, ts: &'a [Token]) -> Read<'a, External>
+fn external<'a>(
+    alloc: Global,
+    names: &TypeNames,
+    left: usize,
+    ts: &'a [Token],
+) -> Read<'a, External>
     ensures { Gives (λ x. (x.0, x.1.now)) result (spec.read_external names.now (spec.levels names.now left) ts.now) }
 {
     let (specs, rest) = specs(alloc, names, left, ts)?;

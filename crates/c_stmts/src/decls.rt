@@ -21,7 +21,12 @@ use std::alloc::Global;
 /// initial = assign | "{" initial { "," initial } [ "," ] "}"
 #[cycle(initials)]
 #[tactic(auto, using(c_nodes::proofs::LevelLaws::initials_rules), unfolding(c_grammar::specs::Reading::read_initial))]
-pub fn initial<'a>(alloc: Global, names: &TypeNames, left: usize, ts: &'a [Token]) -> Read<'a, Initial>
+pub fn initial<'a>(
+    alloc: Global,
+    names: &TypeNames,
+    left: usize,
+    ts: &'a [Token],
+) -> Read<'a, Initial>
     ensures { Gives (λ x. (x.0, x.1.now)) result ((spec.levels names.now left).initials ts.now) }
 {
     if left == 0 {

@@ -35,7 +35,12 @@ fn opt_expr<'a>(
 
 /// decl | [ expr ] ";"
 #[tactic(auto, unfolding(c_grammar::specs::Reading::read_first))]
-fn first<'a>(alloc: Global, names: &TypeNames, left: usize, ts: &'a [Token]) -> Read<'a, Boxed<First>>
+fn first<'a>(
+    alloc: Global,
+    names: &TypeNames,
+    left: usize,
+    ts: &'a [Token],
+) -> Read<'a, Boxed<First>>
     ensures { Gives (λ x. (x.0, x.1.now)) result (spec.read_first names.now (spec.levels names.now left) ts.now) }
 {
     if begins_spec(names, ts) {
@@ -255,7 +260,12 @@ fn return_stmt<'a>(
 /// "if" "(" expr ")" stmt [ "else" stmt ]
 #[cycle(stmts)]
 #[tactic(auto, unfolding(c_grammar::specs::Reading::read_if_stmt))]
-fn if_stmt<'a>(alloc: Global, names: &TypeNames, left: usize, ts: &'a [Token]) -> Read<'a, Boxed<Stmt>>
+fn if_stmt<'a>(
+    alloc: Global,
+    names: &TypeNames,
+    left: usize,
+    ts: &'a [Token],
+) -> Read<'a, Boxed<Stmt>>
     ensures { Gives (λ x. (x.0, x.1.now)) result (spec.read_if_stmt names.now (spec.levels names.now left) ts.now) }
 {
     let (place, rest) = expect(ts, Sign::Word(Keyword::If))?;
@@ -313,7 +323,12 @@ fn while_stmt<'a>(
 /// "do" stmt "while" "(" expr ")" ";"
 #[cycle(stmts)]
 #[tactic(auto, unfolding(c_grammar::specs::Reading::read_do_stmt))]
-fn do_stmt<'a>(alloc: Global, names: &TypeNames, left: usize, ts: &'a [Token]) -> Read<'a, Boxed<Stmt>>
+fn do_stmt<'a>(
+    alloc: Global,
+    names: &TypeNames,
+    left: usize,
+    ts: &'a [Token],
+) -> Read<'a, Boxed<Stmt>>
     ensures { Gives (λ x. (x.0, x.1.now)) result (spec.read_do_stmt names.now (spec.levels names.now left) ts.now) }
 {
     let (place, rest) = expect(ts, Sign::Word(Keyword::Do))?;

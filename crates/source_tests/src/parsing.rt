@@ -257,8 +257,14 @@ fn head_cols(head: &ForHead) -> (u32, u32, u32) {
         First::Expr(Some(expr)) => first_place(expr.get()).col,
         _ => 0,
     };
-    let test = head.test.as_ref().map_or(0, |expr| first_place(expr.get()).col);
-    let step = head.step.as_ref().map_or(0, |expr| first_place(expr.get()).col);
+    let test = head
+        .test
+        .as_ref()
+        .map_or(0, |expr| first_place(expr.get()).col);
+    let step = head
+        .step
+        .as_ref()
+        .map_or(0, |expr| first_place(expr.get()).col);
     (first, test, step)
 }
 
@@ -287,11 +293,17 @@ fn decl_cols(decl: &Decl) -> (u32, u32) {
 fn tag_cols(spec: &Spec) -> (u32, u32) {
     match spec {
         Spec::Struct(found) => match found.get() {
-            StructSpec::Body(place, tag, _) => (place.col, tag.as_ref().map_or(0, |name| name.place.col)),
+            StructSpec::Body(place, tag, _) => (
+                place.col,
+                tag.as_ref().map_or(0, |name| name.place.col),
+            ),
             StructSpec::Tag(place, name) => (place.col, name.place.col),
         },
         Spec::Enum(found) => match found.get() {
-            EnumSpec::Body(place, tag, _) => (place.col, tag.as_ref().map_or(0, |name| name.place.col)),
+            EnumSpec::Body(place, tag, _) => (
+                place.col,
+                tag.as_ref().map_or(0, |name| name.place.col),
+            ),
             EnumSpec::Tag(place, name) => (place.col, name.place.col),
         },
         _ => (0, 0),
