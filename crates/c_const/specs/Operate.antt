@@ -1,5 +1,5 @@
 -- What the operators of the typed tree give on words (C11 6.5).
-use Rattle.std.specs.Prelude.{ℕ, Bool, false, not, cond, eqb, Result, Ok, Err, bit_and, bit_or, bit_xor}
+use Rattle.std.specs.Prelude.{ℕ, Bool, false, not, cond, eqb, Result, Ok, bit_and, bit_or, bit_xor}
 use Rattle.cm_base.specs.declared.stop.Stop.{Stop}
 use Rattle.ns_types.specs.Operators as ops
 use Rattle.ns_types.specs.Operators.{truth}

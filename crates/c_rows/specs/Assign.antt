@@ -1,5 +1,5 @@
 -- Assignment: `=` (C11 6.5.16.1), `op=` (6.5.16.2), `++ --` (6.5.2.4, 6.5.3.1).
-use Rattle.std.specs.Prelude.{ℕ, Bool, true, false, ◌&&◌, ◌||◌, not, cond, Option, Some, None, Ok}
+use Rattle.std.specs.Prelude.{ℕ, Bool, true, false, ◌&&◌, not, cond, Option, Some, None, Ok}
 use Rattle.cm_base.specs.declared.place.Place.{Place}
 use Rattle.ns_types.specs.Operators.{negate}
 use Rattle.c_types.specs.Arithmetic.{common, promoted}

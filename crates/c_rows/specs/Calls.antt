@@ -1,5 +1,5 @@
 -- Calls (C11 6.5.2.2).
-use Rattle.std.specs.Prelude.{ℕ, Bool, false, not, cond, eqb, List, [], ◌∷◌, ◌++◌, length, Option, Some, None, Ok, Err}
+use Rattle.std.specs.Prelude.{ℕ, Bool, false, not, cond, eqb, List, [], ◌∷◌, ◌++◌, length, Option, Some, None, Ok}
 use Rattle.cm_base.specs.declared.place.Place.{Place}
 use Rattle.c_types.specs.Derived.{plain, unqualified}
 use Rattle.c_types.specs.Kind.{Look, look, is_nonsecure_function, referenced}

@@ -1,5 +1,5 @@
 -- The calls of arm_cmse.h (ECM0359818).
-use Rattle.std.specs.Prelude.{ℕ, Bool, true, false, not, cond, List, [], ◌∷◌, Option, Some, None, Ok}
+use Rattle.std.specs.Prelude.{ℕ, Bool, not, cond, List, [], ◌∷◌, Option, Some, None, Ok}
 use Rattle.cm_base.specs.declared.place.Place.{Place}
 use Rattle.c_types.specs.Derived.{arith_type, unqualified}
 use Rattle.c_types.specs.declared.arith.Arith.TheVariants as a

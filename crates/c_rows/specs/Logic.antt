@@ -5,7 +5,6 @@ use Rattle.c_types.specs.Arithmetic.{promoted}
 use Rattle.c_types.specs.Derived.{arith_type, unqualified}
 use Rattle.c_types.specs.Kind.{arithmetic, is_scalar, is_void}
 use Rattle.c_types.specs.declared.arith.Arith.{Arith}
-use Rattle.c_types.specs.declared.ctype.CType.{CType}
 use Rattle.c_tree.specs.declared.expr.Expr.{Expr}
 use Rattle.c_tree.specs.declared.expr.ExprKind.TheVariants as kind
 use Rattle.c_rows.specs.Answers.{Checked, fault}

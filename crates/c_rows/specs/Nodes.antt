@@ -1,5 +1,5 @@
 -- Nodes of the typed tree, and constants.
-use Rattle.std.specs.Prelude.{ℕ, Bool, true, false, if◌then◌else◌}
+use Rattle.std.specs.Prelude.{ℕ, Bool, if◌then◌else◌}
 use Rattle.cm_base.specs.declared.place.Place.{Place}
 use Rattle.c_types.specs.Derived.{arith_type, plain, pointer_to}
 use Rattle.c_types.specs.declared.arith.Arith.{Arith}

@@ -1,5 +1,5 @@
 -- Expressions as values (C11 6.3.2.1), and conversions of values (6.3).
-use Rattle.std.specs.Prelude.{ℕ, Bool, ◌||◌, not, cond, Option, Some, None, Ok}
+use Rattle.std.specs.Prelude.{◌||◌, not, cond, Option, Some, None, Ok}
 use Rattle.cm_base.specs.declared.place.Place.{Place}
 use Rattle.c_types.specs.Convert.{converts}
 use Rattle.c_types.specs.Derived.{arith_type, pointer_to, unqualified}
