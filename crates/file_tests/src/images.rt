@@ -35,8 +35,23 @@ fn library(alloc: Global) -> Result<Bytes, NoMemory> {
     write_implib(alloc, &Veneers { list })
 }
 
+/// The first of these offsets at which a file has another word than the one beside it.
+fn other_at(file: &[u8], words: &[(u32, u32)]) -> Option<u32> {
+    for (at, word) in words {
+        if get32(file, *at) != Some(*word) {
+            return Some(*at);
+        }
+    }
+    None
+}
+
+/// Whether a file has so many bytes, and these words.
+fn is_file(file: &[u8], size: usize, words: &[(u32, u32)]) -> bool {
+    file.len() == size && other_at(file, words).is_none()
+}
+
 /// The words of the library, by their offsets: all but the string tables.
-const LIBRARY: [(u32, u32); 64] = [
+const LIBRARY: &[(u32, u32)] = &[
     (0, 0x464C_457F),
     (4, 0x0001_0101),
     (8, 0),
@@ -103,13 +118,17 @@ const LIBRARY: [(u32, u32); 64] = [
     (276, 0),
 ];
 
+/// Whether the library has its size and its words.
+fn is_library(alloc: Global) -> bool {
+    match library(alloc) {
+        Ok(file) => is_file(file.as_slice(), 280, LIBRARY),
+        Err(_memory) => false,
+    }
+}
+
 #[test]
 fn library_of_one_entry(rt: HostRuntime) -> Result<(), Fail> {
-    let file = library(rt.alloc())?;
-    assert_eq!(rt; file.len(), 280);
-    for (at, word) in LIBRARY {
-        assert_eq!(rt; get32(file.as_slice(), at), Some(word), "at {at}");
-    }
+    assert!(rt; is_library(rt.alloc()));
     Ok(())
 }
 
@@ -147,7 +166,7 @@ fn image(alloc: Global) -> Result<Bytes, NoMemory> {
 }
 
 /// Words of the image, by their offsets.
-const IMAGE: [(u32, u32); 50] = [
+const IMAGE: &[(u32, u32)] = &[
     (0, 0x464C_457F),
     (4, 0x0001_0101),
     (16, 0x0028_0002),
@@ -200,18 +219,24 @@ const IMAGE: [(u32, u32); 50] = [
     (4460, 4296),
 ];
 
+/// Whether the image of a ROM has this size and these words.
+fn is_image(alloc: Global, rom: &[u8], size: usize, words: &[(u32, u32)]) -> bool
+    requires { length rom.now ≤ 100 }
+{
+    match image_of(alloc, rom) {
+        Ok(file) => is_file(file.as_slice(), size, words),
+        Err(_memory) => false,
+    }
+}
+
 #[test]
 fn image_of_one_entry(rt: HostRuntime) -> Result<(), Fail> {
-    let file = image(rt.alloc())?;
-    assert_eq!(rt; file.len(), 4484);
-    for (at, word) in IMAGE {
-        assert_eq!(rt; get32(file.as_slice(), at), Some(word), "at {at}");
-    }
+    assert!(rt; is_image(rt.alloc(), &SMALL_ROM, 4484, IMAGE));
     Ok(())
 }
 
 /// Words of the image of a ROM of ten bytes: zero bytes lead to the second segment.
-const PADDED: [(u32, u32); 8] = [
+const PADDED: &[(u32, u32)] = &[
     (56, 116),
     (68, 10),
     (88, 128),
@@ -225,11 +250,7 @@ const PADDED: [(u32, u32); 8] = [
 #[test]
 fn second_segment_is_aligned(rt: HostRuntime) -> Result<(), Fail> {
     let rom = [0xF8, 0x7F, 1, 0x30, 0x41, 0, 0, 0x10, 1, 2];
-    let file = image_of(rt.alloc(), &rom)?;
-    assert_eq!(rt; file.len(), 4488);
-    for (at, word) in PADDED {
-        assert_eq!(rt; get32(file.as_slice(), at), Some(word), "at {at}");
-    }
+    assert!(rt; is_image(rt.alloc(), &rom, 4488, PADDED));
     Ok(())
 }
 
@@ -242,7 +263,7 @@ fn load(alloc: Global, file: &[u8]) -> Result<Image, ImageFault> {
 }
 
 /// Words of the ROM that the image gives, by their offsets.
-const ROM: [(u32, u32); 6] = [
+const ROM: &[(u32, u32)] = &[
     (0, 0x3001_7FF8),
     (4, 0x1000_0041),
     (8, 0),
@@ -251,165 +272,215 @@ const ROM: [(u32, u32); 6] = [
     (0x3F_FFFC, 0x7F7F_7F7F),
 ];
 
+/// Whether a file is an image of this ROM.
+fn is_rom(alloc: Global, file: &[u8]) -> bool {
+    match load(alloc, file) {
+        Ok(image) => is_file(image.rom.as_slice(), 0x40_0000, ROM),
+        Err(_fault) => false,
+    }
+}
+
+fn reads_back(alloc: Global) -> bool {
+    match image(alloc) {
+        Ok(file) => is_rom(alloc, file.as_slice()),
+        Err(_memory) => false,
+    }
+}
+
 #[test]
 fn image_reads_back(rt: HostRuntime) -> Result<(), Fail> {
-    let file = image(rt.alloc())?;
-    match load(rt.alloc(), file.as_slice()) {
-        Ok(image) => {
-            assert_eq!(rt; image.rom.len(), 0x40_0000);
-            for (at, word) in ROM {
-                assert_eq!(rt; get32(image.rom.as_slice(), at), Some(word), "at {at}");
-            }
-        }
-        Err(fault) => assert_eq!(rt; fault, ImageFault::NoMemory),
-    }
+    assert!(rt; reads_back(rt.alloc()));
     Ok(())
 }
 
-/// A byte put over the image at an offset, and where the fault is then, or None where there is none: a segment below
-/// the ROM, one larger than its room, one past the file, and one behind the ROM, among them.
-const CHANGED: [(usize, u8, Option<u32>); 20] = [
-    (0, 0x7E, Some(0)),
-    (3, 0x47, Some(0)),
-    (4, 2, Some(4)),
-    (5, 2, Some(5)),
-    (6, 0, Some(6)),
-    (7, 9, None),
-    (16, 1, Some(16)),
-    (18, 41, Some(18)),
-    (20, 2, Some(20)),
-    (24, 0x40, None),
-    (24, 0x43, Some(24)),
-    (39, 4, Some(36)),
-    (42, 33, Some(42)),
-    (44, 0, Some(44)),
-    (44, 17, Some(44)),
-    (67, 0x0F, Some(64)),
-    (68, 9, Some(72)),
-    (70, 1, Some(68)),
-    (99, 0x11, Some(96)),
-    (120, 0x40, Some(24)),
-];
+/// Where a file is bad, or None where it is an image.
+fn fault_of(alloc: Global, file: &[u8]) -> Option<ImageFault> {
+    match load(alloc, file) {
+        Ok(_) => None,
+        Err(fault) => Some(fault),
+    }
+}
 
+/// Where the image is bad with this byte at an offset, or None where it is an image.
+fn fault_with(alloc: Global, at: usize, byte: u8) -> Option<ImageFault> {
+    let Ok(mut file) = image(alloc) else {
+        return Some(ImageFault::NoMemory);
+    };
+    if at < file.len() {
+        file.set(at, byte);
+    }
+    fault_of(alloc, file.as_slice())
+}
+
+fn is_bad(alloc: Global, at: usize, byte: u8, fault: u32) -> bool {
+    fault_with(alloc, at, byte) == Some(ImageFault::BadImage(fault))
+}
+
+fn is_read(alloc: Global, at: usize, byte: u8) -> bool {
+    fault_with(alloc, at, byte).is_none()
+}
+
+/// A segment below the ROM, one larger than its room, one past the file, and one behind the ROM are among the changes.
 #[test]
 fn changed_image(rt: HostRuntime) -> Result<(), Fail> {
-    for (at, byte, want) in CHANGED {
-        let mut file = image(rt.alloc())?;
-        if at < file.len() {
-            file.set(at, byte);
-        }
-        let fault = match load(rt.alloc(), file.as_slice()) {
-            Ok(_) => None,
-            Err(fault) => Some(fault),
-        };
-        assert_eq!(rt; fault, want.map(ImageFault::BadImage), "byte {at}");
-    }
+    let alloc = rt.alloc();
+    assert!(rt; is_bad(alloc, 0, 0x7E, 0));
+    assert!(rt; is_bad(alloc, 3, 0x47, 0));
+    assert!(rt; is_bad(alloc, 4, 2, 4));
+    assert!(rt; is_bad(alloc, 5, 2, 5));
+    assert!(rt; is_bad(alloc, 6, 0, 6));
+    assert!(rt; is_read(alloc, 7, 9));
+    assert!(rt; is_bad(alloc, 16, 1, 16));
+    assert!(rt; is_bad(alloc, 18, 41, 18));
+    assert!(rt; is_bad(alloc, 20, 2, 20));
+    assert!(rt; is_read(alloc, 24, 0x40));
+    assert!(rt; is_bad(alloc, 24, 0x43, 24));
+    assert!(rt; is_bad(alloc, 39, 4, 36));
+    assert!(rt; is_bad(alloc, 42, 33, 42));
+    assert!(rt; is_bad(alloc, 44, 0, 44));
+    assert!(rt; is_bad(alloc, 44, 17, 44));
+    assert!(rt; is_bad(alloc, 67, 0x0F, 64));
+    assert!(rt; is_bad(alloc, 68, 9, 72));
+    assert!(rt; is_bad(alloc, 70, 1, 68));
+    assert!(rt; is_bad(alloc, 99, 0x11, 96));
+    assert!(rt; is_bad(alloc, 120, 0x40, 24));
     Ok(())
 }
 
-/// Bytes put over the image at their offsets: the second segment is empty, and inside the first.
-const EMPTY: [(usize, u8); 4] = [(96, 4), (97, 0), (98, 0), (105, 0)];
+/// Makes the second segment empty, and puts it inside the first.
+fn put_empty(file: &mut Bytes) {
+    if file.len() > 105 {
+        file.set(96, 4);
+        file.set(97, 0);
+        file.set(98, 0);
+        file.set(105, 0);
+    }
+}
+
+/// Where the image with such a segment is bad.
+fn fault_of_empty(alloc: Global) -> Option<ImageFault> {
+    let Ok(mut file) = image(alloc) else {
+        return Some(ImageFault::NoMemory);
+    };
+    put_empty(&mut file);
+    fault_of(alloc, file.as_slice())
+}
 
 #[test]
 fn empty_segment_meets_nothing(rt: HostRuntime) -> Result<(), Fail> {
-    let mut file = image(rt.alloc())?;
-    for (at, byte) in EMPTY {
-        if at < file.len() {
-            file.set(at, byte);
-        }
-    }
-    let fault = match load(rt.alloc(), file.as_slice()) {
-        Ok(_) => None,
-        Err(fault) => Some(fault),
-    };
-    assert_eq!(rt; fault, Some(ImageFault::BadImage(104)));
+    assert_eq!(rt; fault_of_empty(rt.alloc()), Some(ImageFault::BadImage(104)));
     Ok(())
 }
 
-/// How many bytes of the image are left, and where the fault is.
-const CUT: [(usize, u32); 6] = [(0, 0), (3, 0), (17, 16), (51, 50), (83, 80), (100, 68)];
+/// Whether the first `len` bytes of the image are bad at this offset.
+fn is_cut(alloc: Global, len: usize, at: u32) -> bool {
+    let Ok(mut file) = image(alloc) else {
+        return false;
+    };
+    file.truncate(len);
+    fault_of(alloc, file.as_slice()) == Some(ImageFault::BadImage(at))
+}
 
 #[test]
 fn cut_image(rt: HostRuntime) -> Result<(), Fail> {
-    for (len, at) in CUT {
-        let mut file = image(rt.alloc())?;
-        file.truncate(len);
-        let fault = match load(rt.alloc(), file.as_slice()) {
-            Ok(_) => None,
-            Err(fault) => Some(fault),
-        };
-        assert_eq!(rt; fault, Some(ImageFault::BadImage(at)), "{len} bytes");
-    }
+    let alloc = rt.alloc();
+    assert!(rt; is_cut(alloc, 0, 0));
+    assert!(rt; is_cut(alloc, 3, 0));
+    assert!(rt; is_cut(alloc, 17, 16));
+    assert!(rt; is_cut(alloc, 51, 50));
+    assert!(rt; is_cut(alloc, 83, 80));
+    assert!(rt; is_cut(alloc, 100, 68));
     Ok(())
 }
 
-const ACCEPTED: [(&str, &str, u32); 6] = [
-    (
-        "int __attribute__((cmse_nonsecure_entry)) answer(void) { return 42; }",
-        "answer",
-        42,
-    ),
-    (
-        "int __attribute__((cmse_nonsecure_entry)) answer(void) { return 42; }\n",
-        "answer",
-        42,
-    ),
-    (
-        "int __attribute__((cmse_nonsecure_entry)) _(void) { return 0; }",
-        "_",
-        0,
-    ),
-    (
-        "int __attribute__((cmse_nonsecure_entry)) If9(void) { return 2147483647; }",
-        "If9",
-        2_147_483_647,
-    ),
-    (
-        "int __attribute__((cmse_nonsecure_entry)) cmse(void) { return 10; }",
-        "cmse",
-        10,
-    ),
-    (
-        "int __attribute__((cmse_nonsecure_entry)) abcdefghijklmnopqrstuvwxyz01234(void) { return 7; }",
-        "abcdefghijklmnopqrstuvwxyz01234",
-        7,
-    ),
-];
-
-const REFUSED: [&str; 21] = [
-    "",
-    "int __attribute__((cmse_nonsecure_entry)) answer(void) { return 042; }",
-    "int __attribute__((cmse_nonsecure_entry)) answer(void) { return 00; }",
-    "int __attribute__((cmse_nonsecure_entry)) answer(void) { return 2147483648; }",
-    "int __attribute__((cmse_nonsecure_entry)) answer(void) { return 4294967296; }",
-    "int __attribute__((cmse_nonsecure_entry)) answer(void) { return ; }",
-    "int __attribute__((cmse_nonsecure_entry)) answer(void) { return -1; }",
-    "int __attribute__((cmse_nonsecure_entry)) answer(void) { return 42u; }",
-    "int __attribute__((cmse_nonsecure_entry)) answer(void) { return 42; }\n\n",
-    "int __attribute__((cmse_nonsecure_entry)) answer(void) { return 42; } ",
-    "int __attribute__((cmse_nonsecure_entry)) answer(void) { return\t42; }",
-    "int  __attribute__((cmse_nonsecure_entry)) answer(void) { return 42; }",
-    "int __attribute__((cmse_nonsecure_entry)) answer() { return 42; }",
-    "int __attribute__((cmse_nonsecure_entry)) (void) { return 42; }",
-    "int __attribute__((cmse_nonsecure_entry)) 9a(void) { return 42; }",
-    "int __attribute__((cmse_nonsecure_entry)) abcdefghijklmnopqrstuvwxyz012345(void) { return 7; }",
-    "int __attribute__((cmse_nonsecure_entry)) if(void) { return 42; }",
-    "int __attribute__((cmse_nonsecure_entry)) _Bool(void) { return 42; }",
-    "int __attribute__((cmse_nonsecure_entry)) double(void) { return 42; }",
-    "int __attribute__((cmse_nonsecure_entry)) cmse_x(void) { return 42; }",
-    "int __attribute__((cmse_nonsecure_entry)) __acle_se_x(void) { return 42; }",
-];
+/// Whether a source is that of an entry of this name that returns `n`.
+fn is_constant(text: &str, name: &str, n: u32) -> bool {
+    read_constant(text.as_bytes()) == Some((name.as_bytes(), n))
+}
 
 #[test]
 fn constants(rt: HostRuntime) {
-    for (text, name, n) in ACCEPTED {
-        assert_eq!(rt;
-            read_constant(text.as_bytes()),
-            Some((name.as_bytes(), n)),
-            "{text}"
-        );
-    }
-    for text in REFUSED {
-        assert_eq!(rt; read_constant(text.as_bytes()), None, "{text}");
-    }
+    assert!(rt;
+        is_constant(
+            "int __attribute__((cmse_nonsecure_entry)) answer(void) { return 42; }",
+            "answer",
+            42
+        )
+    );
+    assert!(rt;
+        is_constant(
+            "int __attribute__((cmse_nonsecure_entry)) answer(void) { return 42; }\n",
+            "answer",
+            42
+        )
+    );
+    assert!(rt;
+        is_constant(
+            "int __attribute__((cmse_nonsecure_entry)) _(void) { return 0; }",
+            "_",
+            0
+        )
+    );
+    assert!(rt;
+        is_constant(
+            "int __attribute__((cmse_nonsecure_entry)) If9(void) { return 2147483647; }",
+            "If9",
+            2_147_483_647
+        )
+    );
+    assert!(rt;
+        is_constant(
+            "int __attribute__((cmse_nonsecure_entry)) cmse(void) { return 10; }",
+            "cmse",
+            10
+        )
+    );
+    assert!(rt;
+        is_constant(
+            "int __attribute__((cmse_nonsecure_entry)) abcdefghijklmnopqrstuvwxyz01234(void) { return 7; }",
+            "abcdefghijklmnopqrstuvwxyz01234",
+            7
+        )
+    );
+}
+
+fn is_other(text: &str) -> bool {
+    read_constant(text.as_bytes()).is_none()
+}
+
+#[test]
+fn other_sources(rt: HostRuntime) {
+    assert!(rt; is_other(""));
+    assert!(rt; is_other("int __attribute__((cmse_nonsecure_entry)) answer(void) { return 042; }"));
+    assert!(rt; is_other("int __attribute__((cmse_nonsecure_entry)) answer(void) { return 00; }"));
+    assert!(rt;
+        is_other("int __attribute__((cmse_nonsecure_entry)) answer(void) { return 2147483648; }")
+    );
+    assert!(rt;
+        is_other("int __attribute__((cmse_nonsecure_entry)) answer(void) { return 4294967296; }")
+    );
+    assert!(rt; is_other("int __attribute__((cmse_nonsecure_entry)) answer(void) { return ; }"));
+    assert!(rt; is_other("int __attribute__((cmse_nonsecure_entry)) answer(void) { return -1; }"));
+    assert!(rt; is_other("int __attribute__((cmse_nonsecure_entry)) answer(void) { return 42u; }"));
+    assert!(rt;
+        is_other("int __attribute__((cmse_nonsecure_entry)) answer(void) { return 42; }\n\n")
+    );
+    assert!(rt; is_other("int __attribute__((cmse_nonsecure_entry)) answer(void) { return 42; } "));
+    assert!(rt; is_other("int __attribute__((cmse_nonsecure_entry)) answer(void) { return\t42; }"));
+    assert!(rt; is_other("int  __attribute__((cmse_nonsecure_entry)) answer(void) { return 42; }"));
+    assert!(rt; is_other("int __attribute__((cmse_nonsecure_entry)) answer() { return 42; }"));
+    assert!(rt; is_other("int __attribute__((cmse_nonsecure_entry)) (void) { return 42; }"));
+    assert!(rt; is_other("int __attribute__((cmse_nonsecure_entry)) 9a(void) { return 42; }"));
+    assert!(rt;
+        is_other(
+            "int __attribute__((cmse_nonsecure_entry)) abcdefghijklmnopqrstuvwxyz012345(void) { return 7; }"
+        )
+    );
+    assert!(rt; is_other("int __attribute__((cmse_nonsecure_entry)) if(void) { return 42; }"));
+    assert!(rt; is_other("int __attribute__((cmse_nonsecure_entry)) _Bool(void) { return 42; }"));
+    assert!(rt; is_other("int __attribute__((cmse_nonsecure_entry)) double(void) { return 42; }"));
+    assert!(rt; is_other("int __attribute__((cmse_nonsecure_entry)) cmse_x(void) { return 42; }"));
+    assert!(rt;
+        is_other("int __attribute__((cmse_nonsecure_entry)) __acle_se_x(void) { return 42; }")
+    );
 }

@@ -25,12 +25,45 @@ fn device(alloc: Global) -> Result<Memory, NoMemory> {
     Memory::new(alloc, PLATFORM, rom.as_slice(), &start)
 }
 
-fn read(m: &Memory, at: u32, size: u8) -> Option<u32> {
-    match size {
-        1 => m.read(at, 1),
-        2 => m.read(at, 2),
-        _ => m.read(at, 4),
-    }
+/// Whether an address lies in region `k`, by each of the tests.
+fn is_in(m: &Memory, at: u32, k: u8) -> bool {
+    m.region_of(at) == Some(k)
+        && is_nonsecure(at) == (k <= 1)
+        && is_in_ns_ram(at) == (k == 1)
+        && is_secure(at) == (k >= 2)
+        && is_in_rom(at) == (k == 2 || k == 3)
+}
+
+/// Whether an address lies in region `k`, whose bytes are all `byte`, and up to `most` bytes are read there at once.
+fn holds(m: &Memory, at: u32, k: u8, byte: u8, most: u8) -> bool {
+    let half = if most < 2 {
+        None
+    } else {
+        Some(u32::from(byte) * 0x101)
+    };
+    let word = if most < 4 {
+        None
+    } else {
+        Some(u32::from(byte) * 0x101_0101)
+    };
+    is_in(m, at, k)
+        && can_read(at, 4) == word.is_some()
+        && m.read(at, 1) == Some(u32::from(byte))
+        && m.read(at, 2) == half
+        && m.read(at, 4) == word
+}
+
+/// Whether an address lies in no region, by each of the tests, and nothing is read there.
+fn is_nowhere(m: &Memory, at: u32) -> bool {
+    m.region_of(at).is_none()
+        && !is_nonsecure(at)
+        && !is_in_ns_ram(at)
+        && !is_secure(at)
+        && !is_in_rom(at)
+        && !can_read(at, 4)
+        && m.read(at, 1).is_none()
+        && m.read(at, 2).is_none()
+        && m.read(at, 4).is_none()
 }
 
 fn write(m: &mut Memory, at: u32, size: u8, value: u32) -> bool {
@@ -41,133 +74,116 @@ fn write(m: &mut Memory, at: u32, size: u8, value: u32) -> bool {
     }
 }
 
-#[test]
-fn regions_and_reads(rt: HostRuntime) -> Result<(), Fail> {
-    let m = device(rt.alloc())?;
-    // the address, its region, and what 1, 2 and 4 bytes there read
-    let table = [
-        (0, Some(0), Some(0x16), Some(0x1616), Some(0x1616_1616)),
-        (
-            0x0003_FFFC,
-            Some(0),
-            Some(0x16),
-            Some(0x1616),
-            Some(0x1616_1616),
-        ),
-        (0x0003_FFFD, Some(0), Some(0x16), Some(0x1616), None),
-        (0x0003_FFFF, Some(0), Some(0x16), None, None),
-        (0x0004_0000, None, None, None, None),
-        (0x0FFF_FFFF, None, None, None, None),
-        (
-            0x1000_0000,
-            Some(2),
-            Some(0x0B),
-            Some(0x0B0B),
-            Some(0x0B0B_0B0B),
-        ),
-        (0x103F_EFFE, Some(2), Some(0x0B), Some(0x0B0B), None),
-        (0x103F_EFFF, Some(2), Some(0x0B), None, None),
-        (
-            0x103F_F000,
-            Some(3),
-            Some(0x0B),
-            Some(0x0B0B),
-            Some(0x0B0B_0B0B),
-        ),
-        (0x103F_FFFF, Some(3), Some(0x0B), None, None),
-        (0x1040_0000, None, None, None, None),
-        (
-            0x2000_0000,
-            Some(1),
-            Some(0x21),
-            Some(0x2121),
-            Some(0x2121_2121),
-        ),
-        (0x2001_FFFE, Some(1), Some(0x21), Some(0x2121), None),
-        (0x2002_0000, None, None, None, None),
-        (
-            0x3000_0000,
-            Some(4),
-            Some(0x2C),
-            Some(0x2C2C),
-            Some(0x2C2C_2C2C),
-        ),
-        (0x3000_FFFF, Some(4), Some(0x2C), None, None),
-        (
-            0x3001_0000,
-            Some(5),
-            Some(0x2C),
-            Some(0x2C2C),
-            Some(0x2C2C_2C2C),
-        ),
-        (0x3001_9FFF, Some(5), Some(0x2C), None, None),
-        (0x3001_A000, None, None, None, None),
-        (0xFFFF_FFFF, None, None, None, None),
-    ];
-    for (at, region, byte, half, word) in table {
-        assert_eq!(rt; m.region_of(at), region, "region at {at:x}");
-        let k = region.unwrap_or(9);
-        assert_eq!(rt; is_nonsecure(at), k <= 1, "{at:x}");
-        assert_eq!(rt; is_in_ns_ram(at), k == 1, "{at:x}");
-        assert_eq!(rt; is_secure(at), k != 9 && k >= 2, "{at:x}");
-        assert_eq!(rt; is_in_rom(at), k == 2 || k == 3, "{at:x}");
-        assert_eq!(rt; can_read(at, 4), word.is_some(), "{at:x}");
-        assert_eq!(rt; read(&m, at, 1), byte, "byte at {at:x}");
-        assert_eq!(rt; read(&m, at, 2), half, "halfword at {at:x}");
-        assert_eq!(rt; read(&m, at, 4), word, "word at {at:x}");
-    }
-    Ok(())
+/// The ends of the Non-secure regions.
+fn nonsecure_reads(m: &Memory) -> bool {
+    holds(m, 0, 0, 0x16, 4)
+        && holds(m, 0x0003_FFFC, 0, 0x16, 4)
+        && holds(m, 0x0003_FFFD, 0, 0x16, 2)
+        && holds(m, 0x0003_FFFF, 0, 0x16, 1)
+        && holds(m, 0x2000_0000, 1, 0x21, 4)
+        && holds(m, 0x2001_FFFE, 1, 0x21, 2)
+}
+
+/// The ends of Secure ROM.
+fn rom_reads(m: &Memory) -> bool {
+    holds(m, 0x1000_0000, 2, 0x0B, 4)
+        && holds(m, 0x103F_EFFE, 2, 0x0B, 2)
+        && holds(m, 0x103F_EFFF, 2, 0x0B, 1)
+        && holds(m, 0x103F_F000, 3, 0x0B, 4)
+        && holds(m, 0x103F_FFFF, 3, 0x0B, 1)
+}
+
+/// The ends of Secure RAM.
+fn secure_ram_reads(m: &Memory) -> bool {
+    holds(m, 0x3000_0000, 4, 0x2C, 4)
+        && holds(m, 0x3000_FFFF, 4, 0x2C, 1)
+        && holds(m, 0x3001_0000, 5, 0x2C, 4)
+        && holds(m, 0x3001_9FFF, 5, 0x2C, 1)
+}
+
+/// Addresses beside the regions.
+fn no_reads(m: &Memory) -> bool {
+    is_nowhere(m, 0x0004_0000)
+        && is_nowhere(m, 0x0FFF_FFFF)
+        && is_nowhere(m, 0x1040_0000)
+        && is_nowhere(m, 0x2002_0000)
+        && is_nowhere(m, 0x3001_A000)
+        && is_nowhere(m, 0xFFFF_FFFF)
 }
 
 #[test]
-fn writes(rt: HostRuntime) -> Result<(), Fail> {
-    let mut m = device(rt.alloc())?;
-    // the address and the size, whether it is written, and the word read at the address then
-    let table = [
-        (0, 4, false, Some(0x1616_1616)),
-        (0x1000_0000, 4, false, Some(0x0B0B_0B0B)),
-        (0x103F_F000, 1, false, Some(0x0B0B_0B0B)),
-        (0x2000_0000, 4, true, Some(0x0403_0201)),
-        (0x2000_0101, 4, true, Some(0x0403_0201)),
-        (0x2000_0204, 2, true, Some(0x2121_0201)),
-        (0x2000_0308, 1, true, Some(0x2121_2101)),
-        (0x2001_FFFD, 4, false, None),
-        (0x2001_FFFE, 2, true, None),
-        (0x3000_FFFC, 4, true, Some(0x0403_0201)),
-        (0x3000_FFFE, 4, false, None),
-        (0x3001_0000, 2, true, Some(0x2C2C_0201)),
-        (0x3001_9FFF, 1, true, None),
-        (0x3001_A000, 1, false, None),
-    ];
-    for (at, size, done, word) in table {
-        assert_eq!(rt;
-            write(&mut m, at, size, 0x0403_0201),
-            done,
-            "write at {at:x}"
-        );
-        assert_eq!(rt; read(&m, at, 4), word, "read at {at:x}");
-    }
-    assert_eq!(rt; m.read(0x2001_FFFE, 2), Some(0x0201));
-    let ram = m.ns_ram();
-    assert_eq!(rt; ram.len(), 0x2_0000);
-    assert_eq!(rt; (ram[0], ram[3], ram[4], ram[0x101]), (1, 4, 0x21, 1));
-    m.put_ns(0x2001_FFFF, 9);
-    assert_eq!(rt; m.read(0x2001_FFFF, 1), Some(9));
-    assert_eq!(rt; m.half(0x1000_0000), 0x0B0B);
-    assert_eq!(rt; m.half(0x103F_FFFF), 0x000B);
-    assert!(rt; !can_write(0x1000_0000, 4));
+fn regions_and_reads(rt: HostRuntime) -> Result<(), Fail> {
+    let m = device(rt.alloc())?;
+    assert!(rt; nonsecure_reads(&m));
+    assert!(rt; rom_reads(&m));
+    assert!(rt; secure_ram_reads(&m));
+    assert!(rt; no_reads(&m));
     Ok(())
+}
+
+/// Whether a write at an address is done or not, and the word read there then is this.
+fn writes(m: &mut Memory, at: u32, size: u8, done: bool, word: Option<u32>) -> bool {
+    write(m, at, size, 0x0403_0201) == done && m.read(at, 4) == word
+}
+
+/// Writes at the ends of the regions.
+fn write_all(m: &mut Memory) -> bool {
+    writes(m, 0, 4, false, Some(0x1616_1616))
+        && writes(m, 0x1000_0000, 4, false, Some(0x0B0B_0B0B))
+        && writes(m, 0x103F_F000, 1, false, Some(0x0B0B_0B0B))
+        && writes(m, 0x2000_0000, 4, true, Some(0x0403_0201))
+        && writes(m, 0x2000_0101, 4, true, Some(0x0403_0201))
+        && writes(m, 0x2000_0204, 2, true, Some(0x2121_0201))
+        && writes(m, 0x2000_0308, 1, true, Some(0x2121_2101))
+        && writes(m, 0x2001_FFFD, 4, false, None)
+        && writes(m, 0x2001_FFFE, 2, true, None)
+        && writes(m, 0x3000_FFFC, 4, true, Some(0x0403_0201))
+        && writes(m, 0x3000_FFFE, 4, false, None)
+        && writes(m, 0x3001_0000, 2, true, Some(0x2C2C_0201))
+        && writes(m, 0x3001_9FFF, 1, true, None)
+        && writes(m, 0x3001_A000, 1, false, None)
+}
+
+/// What the writes left in Non-secure RAM.
+fn is_written(m: &Memory) -> bool {
+    let ram = m.ns_ram();
+    m.read(0x2001_FFFE, 2) == Some(0x0201)
+        && ram.len() == 0x2_0000
+        && (ram[0], ram[3], ram[4], ram[0x101]) == (1, 4, 0x21, 1)
+}
+
+/// Whether a byte put into Non-secure RAM is read there, and the halfwords of Secure ROM.
+fn is_put(m: &mut Memory) -> bool {
+    m.put_ns(0x2001_FFFF, 9);
+    m.read(0x2001_FFFF, 1) == Some(9)
+        && m.half(0x1000_0000) == 0x0B0B
+        && m.half(0x103F_FFFF) == 0x000B
+        && !can_write(0x1000_0000, 4)
+}
+
+#[test]
+fn writes_and_puts(rt: HostRuntime) -> Result<(), Fail> {
+    let mut m = device(rt.alloc())?;
+    assert!(rt; write_all(&mut m));
+    assert!(rt; is_written(&m));
+    assert!(rt; is_put(&mut m));
+    Ok(())
+}
+
+/// The answers of TT.
+fn answers(m: &Memory) -> bool {
+    m.tt(0x0003_FFFF) == 0x0094_0000
+        && m.tt(0x2000_0000) == 0x01BC_0000
+        && m.tt(0x103F_EFFF) == 0x02C4_0000
+        && m.tt(0x103F_F000) == 0x03C4_0000
+        && m.tt(0x3000_FFFF) == 0x04CC_0000
+        && m.tt(0x3001_0000) == 0x05CC_0000
+        && m.tt(0x3001_A000) == 0
 }
 
 #[test]
 fn target_answers(rt: HostRuntime) -> Result<(), Fail> {
     let m = device(rt.alloc())?;
-    assert_eq!(rt; m.tt(0x0003_FFFF), 0x0094_0000);
-    assert_eq!(rt; m.tt(0x2000_0000), 0x01BC_0000);
-    assert_eq!(rt; m.tt(0x103F_EFFF), 0x02C4_0000);
-    assert_eq!(rt; m.tt(0x103F_F000), 0x03C4_0000);
-    assert_eq!(rt; m.tt(0x3000_FFFF), 0x04CC_0000);
-    assert_eq!(rt; m.tt(0x3001_0000), 0x05CC_0000);
-    assert_eq!(rt; m.tt(0x3001_A000), 0);
+    assert!(rt; answers(&m));
     Ok(())
 }

@@ -1,10 +1,11 @@
 //! A run with turns: its events in order, and the end by the test that comes first.
 
-ghost use Rattle.std.specs.Prelude.{◌≡◌, IfOk, vec_len};
+ghost use Rattle.std.specs.Prelude.{◌≡◌, IfOk, length, vec_len};
+ghost use Rattle.ns_types.specs.Memory.{IsStart, rom_size};
 
 use cm_base::{Bytes, List, NoMemory, Stop};
 use ns_turns::run;
-use ns_types::{End, Event, Item, Start, Turn, View};
+use ns_types::{End, Event, Events, Item, Start, Turn, View};
 use std::alloc::Global;
 use std::test::Fail;
 use v8m_core::{Image, Machine};
@@ -29,8 +30,10 @@ fn put(bytes: &mut [u8], at: usize, halfwords: &[u16]) {
     }
 }
 
-/// A machine whose start code is `bxns r0`, and which has the entry `str.w r1, [r0]; bxns lr` behind its gateway.
-fn machine(alloc: Global) -> Result<Machine, NoMemory> {
+/// ROM whose start code is `bxns r0`, and which has the entry `str.w r1, [r0]; bxns lr` behind its gateway.
+fn image(alloc: Global) -> Result<Image, NoMemory>
+    ensures { IfOk result (λ image. length image.rom ≡ rom_size) }
+{
     let mut rom = filled(alloc, 0x40_0000)?;
     put(&mut rom, 0, &[0x7FF8, 0x3001, 0x0100, 0x1000]);
     put(&mut rom, 0x100, &[0x4704]);
@@ -39,14 +42,24 @@ fn machine(alloc: Global) -> Result<Machine, NoMemory> {
         0x3F_F000,
         &[0xE97F, 0xE97F, 0xF8C0, 0x1000, 0x4774],
     );
-    let start = Start {
+    Ok(Image {
+        rom: Bytes::from_vec(rom),
+    })
+}
+
+fn start(alloc: Global) -> Result<Start, NoMemory>
+    ensures { IfOk result (λ start. IsStart start) }
+{
+    Ok(Start {
         secure_ram: Bytes::from_vec(filled(alloc, 0x1_A000)?),
         ns_ram: Bytes::from_vec(filled(alloc, 0x2_0000)?),
         ns_rom: Bytes::from_vec(filled(alloc, 0x4_0000)?),
-    };
-    let image = Image {
-        rom: Bytes::from_vec(rom),
-    };
+    })
+}
+
+fn machine(alloc: Global) -> Result<Machine, NoMemory> {
+    let image = image(alloc)?;
+    let start = start(alloc)?;
     Machine::new(alloc, &image, &start)
 }
 
@@ -62,13 +75,46 @@ fn turn(alloc: Global, r0: u32, target: u32) -> Result<Turn, NoMemory> {
     })
 }
 
+/// A turn that enters, one that goes on in Non-secure code, and one that enters with an address that isn't mapped.
+fn turns(alloc: Global) -> Result<List<Turn>, NoMemory> {
+    let mut turns = List::new(alloc);
+    turns.push(turn(alloc, 0x2000_0010, 0x103F_F000)?)?;
+    turns.push(turn(alloc, 0, 0x2000_0000)?)?;
+    turns.push(turn(alloc, 0x1000_0000, 0x103F_F001)?)?;
+    Ok(turns)
+}
+
+/// The run of these turns.
+fn events_of(alloc: Global, turns: &[Turn], steps: u64) -> Result<Events, NoMemory> {
+    let mut m = machine(alloc)?;
+    run(alloc, &mut m, turns, steps)
+}
+
+/// The run of the first `n` turns.
+fn run_of(alloc: Global, n: usize, steps: u64) -> Result<Events, NoMemory> {
+    let turns = turns(alloc)?;
+    let n = if n < turns.len() { n } else { turns.len() };
+    events_of(alloc, &turns.as_slice()[..n], steps)
+}
+
+/// Whether the run of the first `n` turns has so many events, and this end.
+fn ends(alloc: Global, n: usize, steps: u64, count: usize, end: End) -> bool {
+    match run_of(alloc, n, steps) {
+        Ok(events) => events.list.len() == count && events.end == end,
+        Err(_memory) => false,
+    }
+}
+
+/// Whether the events of the run of all turns are these.
+fn shows(alloc: Global, all: &[Event]) -> bool {
+    match run_of(alloc, 3, 99) {
+        Ok(events) => events.list.as_slice() == all,
+        Err(_memory) => false,
+    }
+}
+
 #[test]
-fn runs(rt: HostRuntime) -> Result<(), Fail> {
-    let turns = vec![in rt.alloc();
-        turn(rt.alloc(), 0x2000_0010, 0x103F_F000)?,
-        turn(rt.alloc(), 0, 0x2000_0000)?,
-        turn(rt.alloc(), 0x1000_0000, 0x103F_F001)?,
-    ]?;
+fn events_of_a_run(rt: HostRuntime) -> Result<(), Fail> {
     let started = View {
         r: [0, 0, 0, 0, 0, 0, 0, 0, 0, 0, 0, 0, 0],
         lr: 0xFFFF_FFFF,
@@ -95,23 +141,18 @@ fn runs(rt: HostRuntime) -> Result<(), Fail> {
         Event::Given(left),
         Event::Stopped(Stop::Unmapped),
     ];
-    let mut m = machine(rt.alloc())?;
-    let events = run(rt.alloc(), &mut m, &turns, 99)?;
-    assert_eq!(rt; events.list.as_slice(), all.as_slice());
-    // turns, steps, the number of events, and the end
-    let table = [
-        (3, 0, 0, End::Spent),
-        (0, 1, 1, End::Waiting),
-        (3, 1, 1, End::Spent),
-        (1, 4, 3, End::Waiting),
-        (3, 6, 3, End::Spent),
-        (3, 7, 4, End::Stopped),
-    ];
-    for (n, steps, count, end) in table {
-        let mut m = machine(rt.alloc())?;
-        let some = if n < turns.len() { n } else { turns.len() };
-        let events = run(rt.alloc(), &mut m, &turns[..some], steps)?;
-        assert_eq!(rt; (events.list.len(), events.end), (count, end));
-    }
+    assert!(rt; shows(rt.alloc(), &all));
+    Ok(())
+}
+
+#[test]
+fn ends_of_runs(rt: HostRuntime) -> Result<(), Fail> {
+    let alloc = rt.alloc();
+    assert!(rt; ends(alloc, 3, 0, 0, End::Spent));
+    assert!(rt; ends(alloc, 0, 1, 1, End::Waiting));
+    assert!(rt; ends(alloc, 3, 1, 1, End::Spent));
+    assert!(rt; ends(alloc, 1, 4, 3, End::Waiting));
+    assert!(rt; ends(alloc, 3, 6, 3, End::Spent));
+    assert!(rt; ends(alloc, 3, 7, 4, End::Stopped));
     Ok(())
 }

@@ -1,6 +1,7 @@
 //! Expected values from the instruction manual and the table of regions; the halfwords are an assembler's.
 
-ghost use Rattle.std.specs.Prelude.{◌≡◌, IfOk, vec_len};
+ghost use Rattle.std.specs.Prelude.{◌≡◌, IfOk, length, vec_len};
+ghost use Rattle.ns_types.specs.Memory.{IsStart, rom_size};
 
 use cm_base::{Bytes, List, NoMemory, Stop};
 use ns_types::{Item, Side, Start, Turn, View};
@@ -28,24 +29,37 @@ fn put(bytes: &mut [u8], at: usize, halfwords: &[u16]) {
     }
 }
 
-/// A machine with code at 10000100, a gateway with `bxns lr` behind it at 103FF000, `udf #2` at 10000200, and two
-/// words at the stack pointer.
-fn machine(alloc: Global, code: &[u16], words: &[u16]) -> Result<Machine, NoMemory> {
+/// ROM with code at 10000100, a gateway with `bxns lr` behind it at 103FF000, and `udf #2` at 10000200.
+fn image(alloc: Global, code: &[u16]) -> Result<Image, NoMemory>
+    ensures { IfOk result (λ image. length image.rom ≡ rom_size) }
+{
     let mut rom = filled(alloc, 0x40_0000, 0)?;
     put(&mut rom, 0, &[0x7FFB, 0x3001, 0x0101, 0x1000]);
     put(&mut rom, 0x100, code);
     put(&mut rom, 0x200, &[0xDE02]);
     put(&mut rom, 0x3F_F000, &[0xE97F, 0xE97F, 0x4774]);
+    Ok(Image {
+        rom: Bytes::from_vec(rom),
+    })
+}
+
+/// Memory with two words at the stack pointer.
+fn start(alloc: Global, words: &[u16]) -> Result<Start, NoMemory>
+    ensures { IfOk result (λ start. IsStart start) }
+{
     let mut secure_ram = filled(alloc, 0x1_A000, 0)?;
     put(&mut secure_ram, 0x1_7FF8, words);
-    let start = Start {
+    Ok(Start {
         secure_ram: Bytes::from_vec(secure_ram),
         ns_ram: Bytes::from_vec(filled(alloc, 0x2_0000, 0)?),
         ns_rom: Bytes::from_vec(filled(alloc, 0x4_0000, 0)?),
-    };
-    let image = Image {
-        rom: Bytes::from_vec(rom),
-    };
+    })
+}
+
+/// A machine with this code, and these words at the stack pointer.
+fn machine(alloc: Global, code: &[u16], words: &[u16]) -> Result<Machine, NoMemory> {
+    let image = image(alloc, code)?;
+    let start = start(alloc, words)?;
     Machine::new(alloc, &image, &start)
 }
 
@@ -70,21 +84,96 @@ fn turn(alloc: Global, items: &[Item], target: u32) -> Result<Turn, NoMemory> {
     })
 }
 
-/// What the next steps are, but for those that only go on.
-fn shown(
-    alloc: Global,
-    machine: &mut Machine,
-    turn: &Turn,
-    steps: u8,
-) -> Result<List<Stepped>, NoMemory> {
-    let mut list = List::new(alloc);
+/// Whether the next steps are these, but for those that only go on.
+fn shows(machine: &mut Machine, turn: &Turn, steps: u8, all: &[Stepped]) -> bool {
+    let mut left = all;
     for _ in 0..steps {
         match go(machine, turn) {
             Some(Stepped::Went) | None => {}
-            Some(what) => list.push(what)?,
+            Some(what) => match left {
+                [first, rest @ ..] if *first == what => left = rest,
+                _ => return false,
+            },
         }
     }
-    Ok(list)
+    left.is_empty()
+}
+
+/// Whether code, and this turn where it hands over, show these steps.
+fn runs(alloc: Global, code: &[u16], turn: &Turn, steps: u8, all: &[Stepped]) -> bool {
+    match machine(alloc, code, &[]) {
+        Ok(mut m) => shows(&mut m, turn, steps, all),
+        Err(_memory) => false,
+    }
+}
+
+/// Whether code, and a turn to `target` where it hands over, show these steps.
+fn plays(alloc: Global, code: &[u16], target: u32, steps: u8, all: &[Stepped]) -> bool {
+    match turn(alloc, &[], target) {
+        Ok(turn) => runs(alloc, code, &turn, steps, all),
+        Err(_memory) => false,
+    }
+}
+
+/// What the last of the next steps is, but for those that only go on.
+fn last(machine: &mut Machine, turn: &Turn, steps: u8) -> Option<Stepped> {
+    let mut last = None;
+    for _ in 0..steps {
+        match go(machine, turn) {
+            Some(Stepped::Went) | None => {}
+            what => last = what,
+        }
+    }
+    last
+}
+
+/// Whether code, with these words at the stack pointer, and a turn come to this stop.
+fn comes_to(
+    alloc: Global,
+    code: &[u16],
+    words: &[u16],
+    turn: &Turn,
+    steps: u8,
+    stop: Stop,
+) -> bool {
+    match machine(alloc, code, words) {
+        Ok(mut m) => last(&mut m, turn, steps) == Some(Stepped::Stopped(stop)),
+        Err(_memory) => false,
+    }
+}
+
+/// Whether code, with these words at the stack pointer, and a turn of one item come to this stop in four steps.
+fn stops(alloc: Global, code: &[u16], words: &[u16], item: Item, target: u32, stop: Stop) -> bool {
+    match turn(alloc, &[item], target) {
+        Ok(turn) => comes_to(alloc, code, words, &turn, 4, stop),
+        Err(_memory) => false,
+    }
+}
+
+/// Whether 16 steps are these, and what they leave in Non-secure RAM.
+fn leaves(machine: &mut Machine, turn: &Turn, all: &[Stepped]) -> bool {
+    shows(machine, turn, 16, all)
+        && machine.ns_ram().get(7).copied() == Some(0x5A)
+        && machine.ns_ram().get(0x1236).copied() == Some(0x65)
+}
+
+fn runs_with_items(alloc: Global, code: &[u16], turn: &Turn, all: &[Stepped]) -> bool {
+    match machine(alloc, code, &[]) {
+        Ok(mut m) => leaves(&mut m, turn, all),
+        Err(_memory) => false,
+    }
+}
+
+/// Whether code, and a turn that reads, writes and enters by the gateway, show these steps.
+fn plays_items(alloc: Global, code: &[u16], all: &[Stepped]) -> bool {
+    let write = Item::Write {
+        at: 0x2000_0007,
+        byte: 0x5A,
+    };
+    match turn(alloc, &[Item::Read { at: 0 }, write], 0x103F_F001) {
+        Ok(turn) => runs_with_items(alloc, code, &turn, all),
+        Err(_memory) => false,
+    }
 }
 
 #[test]
@@ -97,12 +186,6 @@ fn instructions_and_gates(rt: HostRuntime) -> Result<(), Fail> {
         0x2000, 0x460B, 0xEA21, 0x0400, 0xE97F, 0xE97F, 0xF000, 0xB802, 0xDE01, 0xDE01, 0xF380,
         0x880A, 0xF381, 0x8800, 0xF381, 0x8888, 0x4704,
     ];
-    let mut m = machine(rt.alloc(), &code, &[])?;
-    let write = Item::Write {
-        at: 0x2000_0007,
-        byte: 0x5A,
-    };
-    let t = turn(rt.alloc(), &[Item::Read { at: 0 }, write], 0x103F_F001)?;
     // the start code hands over; a turn enters by the gateway, whose LR loses bit 0, and `bxns lr` goes back
     let all = [
         Stepped::Wrote {
@@ -133,7 +216,7 @@ fn instructions_and_gates(rt: HostRuntime) -> Result<(), Fail> {
             psp_ns: 0,
         }),
         Stepped::Given(View {
-            r: t.r,
+            r: [1, 2, 3, 4, 5, 6, 7, 8, 9, 10, 11, 12, 13],
             lr: 0x2000_0000,
             pc: 0x2000_0000,
             nzcvq: 5,
@@ -141,72 +224,67 @@ fn instructions_and_gates(rt: HostRuntime) -> Result<(), Fail> {
             psp_ns: 0x2000_0800,
         }),
     ];
-    let list = shown(rt.alloc(), &mut m, &t, 16)?;
-    assert_eq!(rt; list.as_slice(), all.as_slice());
-    assert_eq!(rt; m.ns_ram().get(7).copied(), Some(0x5A));
-    assert_eq!(rt; m.ns_ram().get(0x1236).copied(), Some(0x65));
+    assert!(rt; plays_items(rt.alloc(), &code, &all));
     Ok(())
 }
 
+/// A read, and the two words of a seal.
+const READ: Item = Item::Read { at: 0 };
+
+const SEAL: [u16; 4] = [0xEDA5, 0xFEF5, 0xEDA5, 0xFEF5];
+
 #[test]
-fn stops(rt: HostRuntime) -> Result<(), Fail> {
-    let read = Item::Read { at: 0 };
-    let write = |at: u32| Item::Write { at, byte: 1 };
-    // movw r0, #0xFFFE; movt r0, #0xFEFF; bxns r0: a function return
-    let leave = [0xF64F, 0x70FE, 0xF6CF, 0x60FF, 0x4704];
-    // bxns r0: a turn follows
-    let give = [0x4704, 0, 0, 0, 0];
-    let seal = [0xEDA5, 0xFEF5, 0xEDA5, 0xFEF5];
-    // the code, the words at SP, an item and the target of a turn, and the stop
-    let table = [
-        ([0xDE01, 0, 0, 0, 0], seal, read, 0, Stop::Divide),
-        ([0xDE05, 0, 0, 0, 0], seal, read, 0, Stop::CallTarget),
-        ([0xDE06, 0, 0, 0, 0], seal, read, 0, Stop::Undefined),
-        ([0xFFFF, 0xFFFF, 0, 0, 0], seal, read, 0, Stop::Undefined),
-        // str.w r1, [r0] at 0; ldr.w r1, [r0, #2]; bxns lr with LR FFFFFFFF
-        ([0xF8C0, 0x1000, 0, 0, 0], seal, read, 0, Stop::Unmapped),
-        ([0xF8D0, 0x1002, 0, 0, 0], seal, read, 0, Stop::Unaligned),
-        ([0x4774, 0, 0, 0, 0], seal, read, 0, Stop::BadState),
-        // a return that goes on to UDF 2, and three that don't
-        (
-            leave,
-            [0x0201, 0x1000, 0x0200, 0x0000],
-            read,
-            0,
-            Stop::Outside,
-        ),
-        (
-            leave,
-            [0x0201, 0x1000, 0x0100, 0x0000],
-            read,
-            0,
-            Stop::ReturnFault,
-        ),
-        (
-            leave,
-            [0x0201, 0x3000, 0x0000, 0x0000],
-            read,
-            0,
-            Stop::BadState,
-        ),
-        (leave, seal, read, 0, Stop::ReturnFault),
-        (give, seal, write(0x2002_0000), 0, Stop::Astray),
-        (give, seal, write(0x0000_0000), 0, Stop::Astray),
-        (give, seal, write(0x3000_0000), 0, Stop::Access),
-        (give, seal, read, 0x1000_0100, Stop::EntryPoint),
-        (give, seal, read, 0x103F_F004, Stop::EntryPoint),
-        (give, seal, read, 0x5000_0000, Stop::Astray),
-        (give, seal, read, 0xFEFF_FFFF, Stop::ReturnFault),
-    ];
-    for (code, words, item, target, stop) in table {
-        let mut m = machine(rt.alloc(), &code, &words)?;
-        let t = turn(rt.alloc(), &[item], target)?;
-        let list = shown(rt.alloc(), &mut m, &t, 4)?;
-        assert_eq!(rt;
-            list.as_slice().last().copied(),
-            Some(Stepped::Stopped(stop))
-        );
-    }
+fn faults(rt: HostRuntime) -> Result<(), Fail> {
+    let alloc = rt.alloc();
+    assert!(rt; stops(alloc, &[0xDE01], &SEAL, READ, 0, Stop::Divide));
+    assert!(rt; stops(alloc, &[0xDE05], &SEAL, READ, 0, Stop::CallTarget));
+    assert!(rt; stops(alloc, &[0xDE06], &SEAL, READ, 0, Stop::Undefined));
+    assert!(rt; stops(alloc, &[0xFFFF, 0xFFFF], &SEAL, READ, 0, Stop::Undefined));
+    // str.w r1, [r0] at 0; ldr.w r1, [r0, #2]; bxns lr with LR FFFFFFFF
+    assert!(rt; stops(alloc, &[0xF8C0, 0x1000], &SEAL, READ, 0, Stop::Unmapped));
+    assert!(rt; stops(alloc, &[0xF8D0, 0x1002], &SEAL, READ, 0, Stop::Unaligned));
+    assert!(rt; stops(alloc, &[0x4774], &SEAL, READ, 0, Stop::BadState));
+    Ok(())
+}
+
+/// Whether a function return with these words at the stack pointer comes to this stop.
+fn returns(alloc: Global, words: &[u16], stop: Stop) -> bool {
+    // movw r0, #0xFFFE; movt r0, #0xFEFF; bxns r0
+    let code = [0xF64F, 0x70FE, 0xF6CF, 0x60FF, 0x4704];
+    stops(alloc, &code, words, READ, 0, stop)
+}
+
+#[test]
+fn function_returns(rt: HostRuntime) -> Result<(), Fail> {
+    let alloc = rt.alloc();
+    // a return that goes on to UDF 2, and three that don't
+    assert!(rt; returns(alloc, &[0x0201, 0x1000, 0x0200, 0x0000], Stop::Outside));
+    assert!(rt; returns(alloc, &[0x0201, 0x1000, 0x0100, 0x0000], Stop::ReturnFault));
+    assert!(rt; returns(alloc, &[0x0201, 0x3000, 0x0000, 0x0000], Stop::BadState));
+    assert!(rt; returns(alloc, &SEAL, Stop::ReturnFault));
+    Ok(())
+}
+
+/// Whether a turn of one item, after `bxns r0`, comes to this stop.
+fn ends(alloc: Global, item: Item, target: u32, stop: Stop) -> bool {
+    stops(alloc, &[0x4704], &SEAL, item, target, stop)
+}
+
+/// The same, where the item writes.
+fn writes(alloc: Global, at: u32, stop: Stop) -> bool {
+    ends(alloc, Item::Write { at, byte: 1 }, 0, stop)
+}
+
+#[test]
+fn turns_that_stop(rt: HostRuntime) -> Result<(), Fail> {
+    let alloc = rt.alloc();
+    assert!(rt; writes(alloc, 0x2002_0000, Stop::Astray));
+    assert!(rt; writes(alloc, 0x0000_0000, Stop::Astray));
+    assert!(rt; writes(alloc, 0x3000_0000, Stop::Access));
+    assert!(rt; ends(alloc, READ, 0x1000_0100, Stop::EntryPoint));
+    assert!(rt; ends(alloc, READ, 0x103F_F004, Stop::EntryPoint));
+    assert!(rt; ends(alloc, READ, 0x5000_0000, Stop::Astray));
+    assert!(rt; ends(alloc, READ, 0xFEFF_FFFF, Stop::ReturnFault));
     Ok(())
 }
 
@@ -222,8 +300,6 @@ fn values(rt: HostRuntime) -> Result<(), Fail> {
         0xFB95, 0xF7F6, 0xF240, 0x0800, 0xFB95, 0xF8F8, 0xF240, 0x1928, 0xFA45, 0xFA09, 0xF240,
         0x0920, 0xFA06, 0xFB09, 0xFA25, 0xFC09, 0xEBB5, 0x0F01, 0xF3EF, 0x8100, 0x4704,
     ];
-    let mut m = machine(rt.alloc(), &code, &[])?;
-    let t = turn(rt.alloc(), &[], 0)?;
     let wrote = Stepped::Wrote {
         at: 0x2000_0000,
         size: 2,
@@ -251,8 +327,7 @@ fn values(rt: HostRuntime) -> Result<(), Fail> {
         msp_ns: 0,
         psp_ns: 0,
     });
-    let list = shown(rt.alloc(), &mut m, &t, 22)?;
-    assert_eq!(rt; list.as_slice(), [wrote, given].as_slice());
+    assert!(rt; plays(rt.alloc(), &code, 0, 22, &[wrote, given]));
     Ok(())
 }
 
@@ -268,8 +343,6 @@ fn lists_and_calls(rt: HostRuntime) -> Result<(), Fail> {
         0xE847, 0xF7C0, 0xEBB1, 0x0F02, 0xF4BF, 0xAFE4, 0xF000, 0xF801, 0xDE01, 0xF240, 0x3C00,
         0x47E4, 0xF2AD, 0x0808, 0xF8D8, 0x9000, 0xF8D8, 0xA004, 0xF3EF, 0x8B08, 0x470C,
     ];
-    let mut m = machine(rt.alloc(), &code, &[])?;
-    let t = turn(rt.alloc(), &[], 0xFEFF_FFFE)?;
     // the call, whose caller comes back by the function return address, and what the call pushed
     let all = [
         Stepped::Given(View {
@@ -317,84 +390,61 @@ fn lists_and_calls(rt: HostRuntime) -> Result<(), Fail> {
             psp_ns: 0x2000_0800,
         }),
     ];
-    let list = shown(rt.alloc(), &mut m, &t, 23)?;
-    assert_eq!(rt; list.as_slice(), all.as_slice());
+    assert!(rt; plays(rt.alloc(), &code, 0xFEFF_FFFE, 23, &all));
     Ok(())
 }
 
-/// What the last of the next steps is, but for those that only go on.
-fn last(alloc: Global, code: &[u16]) -> Result<Option<Stepped>, NoMemory> {
-    let mut m = machine(alloc, code, &[])?;
-    let t = turn(alloc, &[], 0)?;
-    let list = shown(alloc, &mut m, &t, 6)?;
-    Ok(list.as_slice().last().copied())
+/// Whether six steps of code come to this stop.
+fn halts(alloc: Global, code: &[u16], stop: Stop) -> bool {
+    match turn(alloc, &[], 0) {
+        Ok(turn) => comes_to(alloc, code, &[], &turn, 6, stop),
+        Err(_memory) => false,
+    }
 }
 
 #[test]
-fn stacks_and_branches(rt: HostRuntime) -> Result<(), Fail> {
+fn stacks(rt: HostRuntime) -> Result<(), Fail> {
     // movw r0, #4; movt r0, #0x3000; msr msp, r0; push {r0, r1}: the second word would stand below the region
     let code = [
         0xF240, 0x0004, 0xF2C3, 0x0000, 0xF380, 0x8808, 0xE92D, 0x0003,
     ];
-    assert_eq!(rt;
-        last(rt.alloc(), &code)?,
-        Some(Stepped::Stopped(Stop::Unmapped))
-    );
+    assert!(rt; halts(rt.alloc(), &code, Stop::Unmapped));
     // movw r0, #0x9FFC; movt r0, #0x3001; msr msp, r0; pop {r0, r1}: the second word would stand above it
     let code = [
         0xF649, 0x70FC, 0xF2C3, 0x0001, 0xF380, 0x8808, 0xE8BD, 0x0003,
     ];
-    assert_eq!(rt;
-        last(rt.alloc(), &code)?,
-        Some(Stepped::Stopped(Stop::Unmapped))
-    );
+    assert!(rt; halts(rt.alloc(), &code, Stop::Unmapped));
     // movw r0, #0x7FF0; movt r0, #0x3001; msr msplim, r0; subw sp, sp, #8 to the limit; udf #1
     let code = [
         0xF647, 0x70F0, 0xF2C3, 0x0001, 0xF380, 0x880A, 0xF2AD, 0x0D08, 0xDE01,
     ];
-    assert_eq!(rt;
-        last(rt.alloc(), &code)?,
-        Some(Stepped::Stopped(Stop::Divide))
-    );
+    assert!(rt; halts(rt.alloc(), &code, Stop::Divide));
     // the same, and below the limit
     let code = [
         0xF647, 0x70F0, 0xF2C3, 0x0001, 0xF380, 0x880A, 0xF2AD, 0x0D0C, 0xDE01,
     ];
-    assert_eq!(rt;
-        last(rt.alloc(), &code)?,
-        Some(Stepped::Stopped(Stop::StackLimit))
-    );
+    assert!(rt; halts(rt.alloc(), &code, Stop::StackLimit));
     // the same by mov sp, r1, where r1 is 0
     let code = [
         0xF647, 0x70F0, 0xF2C3, 0x0001, 0xF380, 0x880A, 0x468D, 0xDE01,
     ];
-    assert_eq!(rt;
-        last(rt.alloc(), &code)?,
-        Some(Stepped::Stopped(Stop::StackLimit))
-    );
+    assert!(rt; halts(rt.alloc(), &code, Stop::StackLimit));
+    Ok(())
+}
+
+#[test]
+fn branches(rt: HostRuntime) -> Result<(), Fail> {
     // movw r0, #0x200; movt r0, #0x1000; bx r0: bit 0 is clear
     let code = [0xF240, 0x2000, 0xF2C1, 0x0000, 0x4700];
-    assert_eq!(rt;
-        last(rt.alloc(), &code)?,
-        Some(Stepped::Stopped(Stop::BadState))
-    );
+    assert!(rt; halts(rt.alloc(), &code, Stop::BadState));
     // movw r0, #0x201; movt r0, #0x1000; bx r0: to UDF 2
     let code = [0xF240, 0x2001, 0xF2C1, 0x0000, 0x4700];
-    assert_eq!(rt;
-        last(rt.alloc(), &code)?,
-        Some(Stepped::Stopped(Stop::Outside))
-    );
+    assert!(rt; halts(rt.alloc(), &code, Stop::Outside));
     // subw sp, sp, #4; blxns r0: SP is no multiple of 8
     let code = [0xF2AD, 0x0D04, 0x4784];
-    assert_eq!(rt;
-        last(rt.alloc(), &code)?,
-        Some(Stepped::Stopped(Stop::BadState))
-    );
+    assert!(rt; halts(rt.alloc(), &code, Stop::BadState));
     // movw r0, #0xFFFE; movt r0, #0xFEFF; blxns r0, which returns at once; udf #3
     let code = [0xF64F, 0x70FE, 0xF6CF, 0x60FF, 0x4784, 0xDE03];
-    assert_eq!(rt;
-        last(rt.alloc(), &code)?,
-        Some(Stepped::Stopped(Stop::Misaligned))
-    );
+    assert!(rt; halts(rt.alloc(), &code, Stop::Misaligned));
     Ok(())
 }

@@ -1,18 +1,8 @@
-//! A tool chain for Secure firmware in C: the program.
+//! A tool chain for Secure firmware in C: the program over the system's files and output.
 #![tactic(auto)]
 
-mod build;
-mod command;
-mod files;
-mod run;
-mod status;
-#[cfg(test)]
-mod tests;
-mod words;
-
 use cm_base::{FileStore, OutSink};
-use command::cmse_main;
-use status::{Status, status_text};
+use cmse::{Status, cmse_main, status_text};
 use std::alloc::{AllocError, Global};
 use std::env;
 use std::io::{self, Write};
