@@ -161,7 +161,7 @@ unfolding is_readable
 readable a n h = ⊎_elim (λ w. readable_where_writable a n (writable a n w)) (λ z. rw z refl) (or_cases (may_write a n) (lies_in 0 a n) h)
 
 in_four : (a n : ℕ) → 0 < n → lies_in 4 a n ≡ true → ((in_row 4 a || in_row 5 a) ≡ true) × (in_row 1 a ≡ false) × (a - SECURE_DATA.from + n ≤ 65536)
-in_four a n pos h = (grind (arith, nat_tests), grind (arith, nat_tests), (let t : a + n ≤ SECURE_DATA.to = grind (arith, nat_tests) in omega arith))
+in_four a n pos h = (grind (arith, nat_tests), grind (arith, nat_tests), (let f : SECURE_DATA.from ≤ a = grind (arith, nat_tests) in let t : a + n ≤ SECURE_DATA.to = grind (arith, nat_tests) in omega arith))
 
 in_zero : (a n : ℕ) → 0 < n → lies_in 0 a n ≡ true → ((in_row 4 a || in_row 5 a) ≡ false) × (in_row 1 a ≡ false) × (in_row 0 a ≡ true)
 in_zero a n pos h = (grind (arith, nat_tests), grind (arith, nat_tests), grind (arith, nat_tests))

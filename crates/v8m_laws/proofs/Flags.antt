@@ -106,13 +106,14 @@ of_words a b lt_a lt_b = record {
   greater = grind (arith, nat_tests);
 }
 
+-- both lists, member by member
+same_lists : (n z c v h s g eq lt gt less more : Bool) → z ≡ eq → c ≡ not lt → not c ≡ lt → h ≡ gt → s ≡ not less → not s ≡ less → g ≡ more
+    → (z ∷ not z ∷ c ∷ not c ∷ n ∷ not n ∷ v ∷ not v ∷ h ∷ not h ∷ s ∷ not s ∷ g ∷ not g ∷ []) ≡ (eq ∷ not eq ∷ not lt ∷ lt ∷ n ∷ not n ∷ v ∷ not v ∷ gt ∷ not gt ∷ not less ∷ less ∷ more ∷ not more ∷ [])
+same_lists n z c v h s g eq lt gt less more e1 e2 e3 e4 e5 e6 e7 = cc
+
 -- each condition after CMP of two words
 pub condition_compares : (k a b f : ℕ) → k < 14 → a < 4294967296 → b < 4294967296 → condition_holds k (compared a b f) ≡ compares k a b
 condition_compares k a b f lt lt_a lt_b =
     let w = of_words a b lt_a lt_b in
     condition_is k a b f lt
-    ∙ rw (w.less, w.greater, w.higher, w.c, w.z, double (ltb a b), double (ltb (from_least a) (from_least b))) refl
-  where
-    double : (b : Bool) → not (not b) ≡ b
-    double true = refl
-    double false = refl
+    ∙ ap (λ l. slice_index_or l k false) (same_lists _ _ _ _ _ _ _ _ _ _ _ _ w.z w.c w.lower w.higher w.less w.lesser w.greater)

@@ -2,6 +2,7 @@
 use Rattle.std.proofs.Common.{◌≡◌, ℕ, ◌+◌, ◌-◌, ◌*◌, ◌/◌, ◌%◌, ◌^◌, ◌<◌, ◌≤◌, Bool, true, false, cond, refl, sym, ap, ◌∙◌, subst, arith, Result, Ok, Err}
 use Rattle.std.specs.Prelude.{eqb, ltb, not, bit_and}
 use Rattle.std.proofs.lemmas.Bool.Decides.{nat_tests}
+use Rattle.std.proofs.Math.Nat.{div-le_self}
 use Rattle.std.proofs.lemmas.Nat.{and_mask}
 use Rattle.cm_base.specs.declared.stop.Stop.{Stop}
 use Rattle.cm_base.specs.declared.stop.Stop.TheVariants as stop
@@ -91,10 +92,7 @@ signed_parts p q m n lt_m lt_n = shape p q
     sum = (parts m n).sum
 
     lt_d : d < 4294967296
-    lt_d = small d n m lt_n
-      where
-        small : (d n m : ℕ) → n < 4294967296 → m / n < 4294967296
-        small d n m lt = grind arith
+    lt_d = omega (arith, div-le_self m n, lt_m)
 
     lt_p : multiply d n < 4294967296
     lt_p = omega arith

@@ -51,12 +51,12 @@ path_leads device ks code rest i s t d e path has step =
     record { n = length ks; last = t; on = w.comes; step = does device t i here.0 ∙ step }
 
 -- a path to a UDF
+udf : (device : Device) (i : ℕ) (s : State) → act device (Udf i) (size_of (Udf i)) s ≡ stopped (udf_stop i) s
+unfolding effect_of apply
+udf device i s = refl
+
 pub path_stops : (device : Device) (ks : List ℕ) (code rest : List Instr) (i : ℕ) (s t : State) → left_of ks code ≡ Udf i ∷ rest → Path device ks code s t → HasCode device s.cpu.pc code → Leads device s (stopped (udf_stop i) t)
 path_stops device ks code rest i s t e path has = path_leads device ks code rest (Udf i) s t _ e path has (udf device i t)
-  where
-    udf : (device : Device) (i : ℕ) (s : State) → act device (Udf i) (size_of (Udf i)) s ≡ stopped (udf_stop i) s
-    unfolding effect_of apply
-    udf device i s = refl
 
 -- at least one step that goes on
 pub comes_leads : (device : Device) (n : ℕ) (s t : State) → Comes device (suc n) s t → Leads device s (went t)
