@@ -46,6 +46,9 @@ place_is asm n l le = of (label_at l None 0 asm) (label_is n l None 0 asm refl (
     of (Some p) h = h
 
 -- a label that doesn't stand behind a place isn't found there
+abbrev one_if : Bool → ℕ
+one_if b = cond b 1 0
+
 nothing : (x y : ℕ) → x + y ≡ 0 → (x ≡ 0) × (y ≡ 0)
 nothing x y e = (omega arith, omega arith)
 
@@ -53,7 +56,7 @@ found_no : (l : ℕ) (found : Option ℕ) (at : ℕ) (a : Asm) → is_label l a 
 found_no l found at (Op i) e = refl
 found_no l found at (Label k) e = either (eqb k l) e
   where
-    either : (b : Bool) → cond b 1 0 ≡ 0 → cond b (Some at) found ≡ found
+    either : (b : Bool) → one_if b ≡ 0 → cond b (Some at) found ≡ found
     either true e = absurd (omega arith)
     either false e = refl
 found_no l found at (Jump to) e = refl
@@ -70,10 +73,10 @@ pub counts : (l : ℕ) (front : List Asm) (a : Asm) (back : List Asm) → count 
 counts l [] a back = omega arith
 counts l (b ∷ front) a back = let e = counts l front a back in omega arith
 
-itself : (l : ℕ) → is_label l (Label l) ≡ 1
-itself l = ap (λ b. cond b 1 0) (eq-eqb l l refl)
+pub itself : (l : ℕ) → is_label l (Label l) ≡ 1
+itself l = ap one_if (eq-eqb l l refl)
 
-at_label : (l : ℕ) (found : Option ℕ) (at : ℕ) → found_by l found at (Label l) ≡ Some at
+pub at_label : (l : ℕ) (found : Option ℕ) (at : ℕ) → found_by l found at (Label l) ≡ Some at
 at_label l found at = ap (λ b. cond b (Some at) found) (eq-eqb l l refl)
 
 label_in : (l : ℕ) (found : Option ℕ) (at : ℕ) (front back : List Asm) → count l back ≡ 0 → label_at l found at (front ++ Label l ∷ back) ≡ Some (at + bytes_in front)

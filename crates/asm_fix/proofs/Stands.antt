@@ -14,17 +14,17 @@ use Rattle.asm_fix.proofs.Labels.{place_is, label_no, itself, at_label}
 -- a list that stands behind another one
 pub asm_front : (device : Device) (at : ℕ → ℕ) (pc : ℕ) (a b : List Asm) → HasAsm device at pc (a ++ b) → HasAsm device at pc a
 asm_front device at pc [] b h = tt
-asm_front device at pc (Op i ∷ a) b h = (h.0, asm_front device at _ a b h.1)
+asm_front device at pc (Op i ∷ a) b h = (h.0, asm_front device at (pc + size_of i) a b h.1)
 asm_front device at pc (Label l ∷ a) b h = (h.0, asm_front device at pc a b h.1)
-asm_front device at pc (Jump to ∷ a) b h = (h.0, asm_front device at _ a b h.1)
-asm_front device at pc (JumpIf c to ∷ a) b h = (h.0, asm_front device at _ a b h.1)
+asm_front device at pc (Jump to ∷ a) b h = (h.0, asm_front device at (pc + 4) a b h.1)
+asm_front device at pc (JumpIf c to ∷ a) b h = (h.0, asm_front device at (pc + 4) a b h.1)
 
 pub asm_back : (device : Device) (at : ℕ → ℕ) (pc : ℕ) (a b : List Asm) → HasAsm device at pc (a ++ b) → HasAsm device at (past_asm pc a) b
 asm_back device at pc [] b h = h
-asm_back device at pc (Op i ∷ a) b h = asm_back device at _ a b h.1
+asm_back device at pc (Op i ∷ a) b h = asm_back device at (pc + size_of i) a b h.1
 asm_back device at pc (Label l ∷ a) b h = asm_back device at pc a b h.1
-asm_back device at pc (Jump to ∷ a) b h = asm_back device at _ a b h.1
-asm_back device at pc (JumpIf c to ∷ a) b h = asm_back device at _ a b h.1
+asm_back device at pc (Jump to ∷ a) b h = asm_back device at (pc + 4) a b h.1
+asm_back device at pc (JumpIf c to ∷ a) b h = asm_back device at (pc + 4) a b h.1
 
 -- sums that stand where branches lead
 leads : (base at p : ℕ) → base + p < 4294967296 → at + 4 ≤ 4294967296 → add (base + at + 4) (subtract p (at + 4)) ≡ base + p
@@ -56,19 +56,19 @@ unfolding size_of
 has_rest device base place found at [] r h = tt
 has_rest device base place found at (Op i ∷ asm) r h =
     let e : base + at + size_of i ≡ base + (at + size_of i) = omega arith in
-    (h.0, subst (λ p. HasAsm device (λ l. base + place l) p asm) (sym e) (has_rest device base place _ (at + size_of i) asm (rest_on base place found at (Op i) asm r) (subst (λ p. HasCode device p (fixed_from place (at + size_of i) asm)) e h.1)))
+    (h.0, subst (λ p. HasAsm device (λ l. base + place l) p asm) (sym e) (has_rest device base place (λ q. found_by q (found q) at (Op i)) (at + size_of i) asm (rest_on base place found at (Op i) asm r) (subst (λ p. HasCode device p (fixed_from place (at + size_of i) asm)) e h.1)))
 has_rest device base place found at (Label l ∷ asm) r h =
     let e : base + (at + 0) ≡ base + at = omega arith in
     let f : base + at ≡ base + (at + 0) = omega arith in
-    (here base place found at l asm r, subst (λ p. HasAsm device (λ l. base + place l) p asm) e (has_rest device base place _ (at + 0) asm (rest_on base place found at (Label l) asm r) (subst (λ p. HasCode device p (fixed_from place (at + 0) asm)) f h)))
+    (here base place found at l asm r, subst (λ p. HasAsm device (λ l. base + place l) p asm) e (has_rest device base place (λ q. found_by q (found q) at (Label l)) (at + 0) asm (rest_on base place found at (Label l) asm r) (subst (λ p. HasCode device p (fixed_from place (at + 0) asm)) f h)))
 has_rest device base place found at (Jump to ∷ asm) r h =
     let f : base + (at + 4) ≡ base + at + 4 = omega arith in
     ((subtract (place to) (at + 4), h.0, leads base at (place to) (r.low to) (omega (arith, r.short))),
-      subst (λ p. HasAsm device (λ l. base + place l) p asm) f (has_rest device base place _ (at + 4) asm (rest_on base place found at (Jump to) asm r) (subst (λ p. HasCode device p (fixed_from place (at + 4) asm)) (sym f) h.1)))
+      subst (λ p. HasAsm device (λ l. base + place l) p asm) f (has_rest device base place (λ q. found_by q (found q) at (Jump to)) (at + 4) asm (rest_on base place found at (Jump to) asm r) (subst (λ p. HasCode device p (fixed_from place (at + 4) asm)) (sym f) h.1)))
 has_rest device base place found at (JumpIf c to ∷ asm) r h =
     let f : base + (at + 4) ≡ base + at + 4 = omega arith in
     ((subtract (place to) (at + 4), h.0, leads base at (place to) (r.low to) (omega (arith, r.short))),
-      subst (λ p. HasAsm device (λ l. base + place l) p asm) f (has_rest device base place _ (at + 4) asm (rest_on base place found at (JumpIf c to) asm r) (subst (λ p. HasCode device p (fixed_from place (at + 4) asm)) (sym f) h.1)))
+      subst (λ p. HasAsm device (λ l. base + place l) p asm) f (has_rest device base place (λ q. found_by q (found q) at (JumpIf c to)) (at + 4) asm (rest_on base place found at (JumpIf c to) asm r) (subst (λ p. HasCode device p (fixed_from place (at + 4) asm)) (sym f) h.1)))
 
 -- code stands below the end of the Non-secure callable region; an empty list stands anywhere
 pub has_asm : (device : Device) (base : ℕ) (asm : List Asm) → base < 4000000000 → IsFixable asm → ((l : ℕ) → count l asm ≤ 1) → HasCode device base (fixed asm) → HasAsm device (λ l. base + place_of asm l) base asm

@@ -2,8 +2,8 @@
 #![tactic(auto)]
 
 mod asm;
-mod fix;
+mod fixing;
 pub mod laws;
 
 pub use asm::Asm;
-pub use fix::fix;
+pub use fixing::fix;

@@ -2,6 +2,7 @@
 
 ghost use Rattle.std.specs.Prelude.{◌≡◌, ◌≤◌, ◌<◌, ◌+◌, ◌++◌, ℕ, IsTrue, IfOk, IfSome, OnOk, All, None, nat_eq};
 ghost use Rattle.std.specs.HashMap as hash;
+ghost use Rattle.cm_base.specs.LittleEndian.{le16};
 ghost use Rattle.v8m_isa.specs.Table.{in_range_of};
 ghost use Rattle.v8m_isa.specs.Bytes.{instr_bytes, code_bytes};
 ghost use Rattle.ns_types.specs.Operators.{subtract};
@@ -119,9 +120,17 @@ fn put_instr(bytes: &mut Bytes, instr: &Instr) -> Result<(), NoMemory>
     ensures { OnOk result (bytes.new ≡ bytes.old ++ instr_bytes instr.now) }
 {
     let code = encode(instr);
-    bytes.extend_from_slice(&code.first.to_le_bytes())?;
+    put_half(bytes, code.first)?;
     if code.size == 4 {
-        bytes.extend_from_slice(&code.second.to_le_bytes())?;
+        put_half(bytes, code.second)?;
     }
     Ok(())
+}
+
+// Appends a halfword, its low byte first.
+fn put_half(bytes: &mut Bytes, half: u16) -> Result<(), NoMemory>
+    ensures { OnOk result (bytes.new ≡ bytes.old ++ le16 half) }
+{
+    let both = half.to_le_bytes();
+    bytes.extend_from_slice(&both)
 }

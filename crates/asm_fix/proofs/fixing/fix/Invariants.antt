@@ -1,7 +1,7 @@
 use Rattle.std.proofs.Common.{◌≡◌, ℕ, ◌+◌, ◌%◌, ◌++◌, drop}
 use Rattle.v8m_isa.specs.Bytes.{code_bytes}
 use Rattle.asm_fix.specs.Fixed.{bytes_in, place_of, fixed_from, fixed}
-use Rattle.asm_fix.proofs.fix.fix.Given as goal
+use Rattle.asm_fix.proofs.fixing.fix.Given as goal
 
 abbrev pub invariant-loop-a : goal.invariant-loop-a
 invariant-loop-a l = record {

@@ -2,7 +2,7 @@ use Rattle.std.proofs.Common.{◌≡◌, ℕ, ◌+◌, ◌≤◌, None, drop}
 use Rattle.std.specs.Prelude.{nat_eq}
 use Rattle.std.specs.HashMap as hash
 use Rattle.asm_fix.specs.Fixed.{bytes_in, label_at}
-use Rattle.asm_fix.proofs.fix.places.Given as goal
+use Rattle.asm_fix.proofs.fixing.places.Given as goal
 
 abbrev pub invariant-loop-a : goal.invariant-loop-a
 invariant-loop-a l = record {
