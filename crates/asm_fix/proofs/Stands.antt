@@ -62,13 +62,15 @@ has_rest device base place found at (Label l ∷ asm) r h =
     let f : base + at ≡ base + (at + 0) = omega arith in
     (here base place found at l asm r, subst (λ p. HasAsm device (λ l. base + place l) p asm) e (has_rest device base place (λ q. found_by q (found q) at (Label l)) (at + 0) asm (rest_on base place found at (Label l) asm r) (subst (λ p. HasCode device p (fixed_from place (at + 0) asm)) f h)))
 has_rest device base place found at (Jump to ∷ asm) r h =
-    let f : base + (at + 4) ≡ base + at + 4 = omega arith in
-    ((subtract (place to) (at + 4), h.0, leads base at (place to) (r.low to) (omega (arith, r.short))),
-      subst (λ p. HasAsm device (λ l. base + place l) p asm) f (has_rest device base place (λ q. found_by q (found q) at (Jump to)) (at + 4) asm (rest_on base place found at (Jump to) asm r) (subst (λ p. HasCode device p (fixed_from place (at + 4) asm)) (sym f) h.1)))
+    let f : base + (at + 4) ≡ base + at + 4 = omega arith in (
+      (subtract (place to) (at + 4), h.0, leads base at (place to) (r.low to) (omega (arith, r.short))),
+      subst (λ p. HasAsm device (λ l. base + place l) p asm) f (has_rest device base place (λ q. found_by q (found q) at (Jump to)) (at + 4) asm (rest_on base place found at (Jump to) asm r) (subst (λ p. HasCode device p (fixed_from place (at + 4) asm)) (sym f) h.1)),
+    )
 has_rest device base place found at (JumpIf c to ∷ asm) r h =
-    let f : base + (at + 4) ≡ base + at + 4 = omega arith in
-    ((subtract (place to) (at + 4), h.0, leads base at (place to) (r.low to) (omega (arith, r.short))),
-      subst (λ p. HasAsm device (λ l. base + place l) p asm) f (has_rest device base place (λ q. found_by q (found q) at (JumpIf c to)) (at + 4) asm (rest_on base place found at (JumpIf c to) asm r) (subst (λ p. HasCode device p (fixed_from place (at + 4) asm)) (sym f) h.1)))
+    let f : base + (at + 4) ≡ base + at + 4 = omega arith in (
+      (subtract (place to) (at + 4), h.0, leads base at (place to) (r.low to) (omega (arith, r.short))),
+      subst (λ p. HasAsm device (λ l. base + place l) p asm) f (has_rest device base place (λ q. found_by q (found q) at (JumpIf c to)) (at + 4) asm (rest_on base place found at (JumpIf c to) asm r) (subst (λ p. HasCode device p (fixed_from place (at + 4) asm)) (sym f) h.1)),
+    )
 
 -- code stands below the end of the Non-secure callable region; an empty list stands anywhere
 pub has_asm : (device : Device) (base : ℕ) (asm : List Asm) → base < 4000000000 → IsFixable asm → ((l : ℕ) → count l asm ≤ 1) → HasCode device base (fixed asm) → HasAsm device (λ l. base + place_of asm l) base asm

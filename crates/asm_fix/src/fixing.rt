@@ -71,12 +71,7 @@ fn size(a: &Asm) -> u32
 }
 
 // Appends the instruction of a member, if it has one.
-fn put(
-    bytes: &mut Bytes,
-    places: &HashMap<u32, u32>,
-    at: u32,
-    a: &Asm,
-) -> Result<(), NoMemory>
+fn put(bytes: &mut Bytes, places: &HashMap<u32, u32>, at: u32, a: &Asm) -> Result<(), NoMemory>
     requires at { at ≤ 512000 }
     requires range { IfSome (instr_at (place_in places.now) at a.now) (λ i. IsTrue (in_range_of i)) }
     ensures { OnOk result (bytes.new ≡ bytes.old ++ its_bytes (instr_at (place_in places.now) at a.now)) }
