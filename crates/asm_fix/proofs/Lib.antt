@@ -1,0 +1,4 @@
+pub mod Labels
+pub mod Ranges
+pub mod Stands
+pub mod Joins

@@ -1,0 +1,4 @@
+pub mod Path
+pub mod Compares
+pub mod Rows
+pub mod Lists
