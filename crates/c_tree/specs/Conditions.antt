@@ -1,6 +1,8 @@
 -- What holds of each typed unit and of each program.
-use Rattle.std.specs.Prelude.{◌≡◌, ◌≢◌, ℕ, ◌≤◌, ◌||◌, Bool, true, false, cond, IsTrue, List, map, length, take, codes, All, AllPairs, bytes_eq}
-use Rattle.std.specs.List.{filter}
+use Rattle.std.specs.Prelude.{◌≡◌, ◌≢◌, ℕ, ◌≤◌, ◌||◌, ◌&&◌, Bool, true, false, not, cond, IsTrue, List, [], ◌∷◌, map, length, take, position, slice_get, Option, Some, None, option_and_then, codes, All, AllPairs, bytes_eq}
+use Rattle.std.specs.List.{filter, list_any}
+use Rattle.c_types.specs.declared.ctype.CType.{CType}
+use Rattle.c_types.specs.Same.{same_flag, same_type}
 use Rattle.c_types.specs.Kind.{look}
 use Rattle.c_tree.specs.declared.program.Extern.{Extern}
 use Rattle.c_tree.specs.declared.program.TFunction.{TFunction}
@@ -39,12 +41,48 @@ pub record TUnit : Type 0 where
   pub globals : List TGlobal
   pub externs : List Extern
 
+-- where a name stands among names
+abbrev pub place_of : List (List ℕ) → List ℕ → Option ℕ
+place_of names name = position (bytes_eq name) names
+
+-- no name stands twice among names
+abbrev pub all_differ : List (List ℕ) → Bool
+all_differ [] = true
+all_differ (name ∷ names) = not (list_any (bytes_eq name) names) && all_differ names
+
+abbrev pub extern_names : List Extern → List (List ℕ)
+extern_names externs = map (λ x. x.name) externs
+
+-- the extern of this name
+abbrev pub declared : List Extern → List ℕ → Option Extern
+declared externs name = option_and_then (slice_get externs) (place_of (extern_names externs) name)
+
+-- whether it has this type
+abbrev pub has_type : CType → Option Extern → Bool
+has_type t None = false
+has_type t (Some x) = same_type x.ctype t
+
+-- and whether it is static where it is to be
+abbrev pub has_linkage : Bool → Option Extern → Bool
+has_linkage is_static None = false
+has_linkage is_static (Some x) = same_flag x.is_static is_static
+
+-- Each function and each global stands among the externs with its type, and a function with its linkage.
+abbrev pub function_declared : List Extern → TFunction → Bool
+function_declared externs f = has_type f.ctype (declared externs f.name) && has_linkage f.is_static (declared externs f.name)
+
+abbrev pub global_declared : List Extern → TGlobal → Bool
+global_declared externs g = has_type g.ctype (declared externs g.name)
+
 -- what holds of a unit
 pub record IsUnit (u : TUnit) : Type 0 where
   pub functions : All (IsFunction (names_of_unit u.externs)) u.functions
   pub globals : All IsGlobal u.globals
   pub types : IsTrue (g.all_fit u.globals)
   pub named : All (λ x. is_twin x.name ≡ false) u.externs
+  pub differ : IsTrue (all_differ (extern_names u.externs))
+  pub functions_declared : All (λ f. IsTrue (function_declared u.externs f)) u.functions
+  pub globals_declared : All (λ g. IsTrue (global_declared u.externs g)) u.globals
 
 -- a program as contracts see it
 pub record Program : Type 0 where

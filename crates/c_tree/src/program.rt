@@ -3,6 +3,7 @@ ghost use Rattle.std.specs.Prelude.{◌≡◌};
 ghost use Rattle.c_tree.specs.Conditions as spec;
 
 use crate::stmt::Stmt;
+use c_names::Ident;
 use c_types::CType;
 use cm_base::{Bytes, List, Place, Shared, Text};
 use std::marker::Model;
@@ -17,7 +18,7 @@ pub struct TLocal {
 /// A function that its unit defines, with the place of its name there.
 #[derive(Drop)]
 pub struct TFunction {
-    pub name: Text,
+    pub name: Ident,
     pub unit: u32,
     pub ctype: CType,
     pub entry: bool,
@@ -31,7 +32,7 @@ pub struct TFunction {
 /// A global that its unit defines. `init` has the bytes of all of it, or none where it is left as it is at the start.
 #[derive(Drop)]
 pub struct TGlobal {
-    pub name: Text,
+    pub name: Ident,
     pub unit: u32,
     pub ctype: CType,
     pub noinit: bool,
@@ -42,7 +43,7 @@ pub struct TGlobal {
 /// A function or global that a unit declares.
 #[derive(Drop)]
 pub struct Extern {
-    pub name: Text,
+    pub name: Ident,
     pub ctype: CType,
     pub is_static: bool,
     pub place: Place,
@@ -107,7 +108,7 @@ impl TUnit {
 pub struct Program {
     pub functions: List<TFunction>,
     pub globals: List<TGlobal>,
-    pub entries: List<Text>,
+    pub entries: List<Ident>,
 }
 
 impl Model for Program {
@@ -134,7 +135,7 @@ impl Model for Program {
 }
 
 impl Program {
-    pub fn new(functions: List<TFunction>, globals: List<TGlobal>, entries: List<Text>) -> Program
+    pub fn new(functions: List<TFunction>, globals: List<TGlobal>, entries: List<Ident>) -> Program
         requires { spec.IsProgram (record { functions = functions; globals = globals; entries = entries }) }
         ensures { result ≡ record { functions = functions; globals = globals; entries = entries } }
     {
