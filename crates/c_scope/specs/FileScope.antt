@@ -17,16 +17,20 @@ use Rattle.c_scope.specs.declared.tables.Meaning.TheVariants.{Extern, Constant, 
 use Rattle.c_scope.specs.declared.tables.State.{State}
 use Rattle.c_scope.specs.declared.tables.Tables.{Tables}
 use Rattle.c_scope.specs.Blocks.{is_made}
-use Rattle.c_scope.specs.Lookup.{file_meaning}
+use Rattle.c_scope.specs.Index.{added, place_of}
 use Rattle.c_scope.specs.Steps.{Step, refuse}
 
+-- whether file scope has a name already
+abbrev pub is_declared : Tables → List ℕ → Bool
+is_declared s text = is_some (place_of s.names text)
+
 abbrev pub with_meaning : List ℕ → Meaning → Tables → Tables
-with_meaning text m s = record s { names = s.names ++ text ∷ []; meanings = s.meanings ++ m ∷ [] }
+with_meaning text m s = record s { names = added s.names text; meanings = s.meanings ++ m ∷ [] }
 
 -- a name that only one declaration may have; its type, where it has one, is neither too large nor points to a Secure function
 abbrev pub declare_typedef : Name → CType → Step (Unit {0})
 declare_typedef name t s =
-    refuse (is_some (file_meaning s name.text)) 21 name.place (
+    refuse (is_declared s name.text) 21 name.place (
     refuse (not (fits t)) 24 name.place (
     refuse (has_secure_pointer t) 29 name.place (
     refuse (is_reserved name.text) 45 name.place (
@@ -34,7 +38,7 @@ declare_typedef name t s =
 
 abbrev pub declare_constant : Name → ℕ → Step (Unit {0})
 declare_constant name n s =
-    refuse (is_some (file_meaning s name.text)) 21 name.place (
+    refuse (is_declared s name.text) 21 name.place (
     refuse (is_reserved name.text) 45 name.place (
     Ok (tt, with_meaning name.text (Constant n) s)))
 
@@ -49,10 +53,14 @@ clashes_as s t how (Some (Constant n)) = true
 clashes_as s t how (Some Null) = true
 clashes_as s t how (Some (Typedef u)) = true
 clashes_as s t how (Some (Intrinsic i)) = true
-clashes_as s t how None = false
+clashes_as s t how None = true
+
+abbrev pub clashes_at : Tables → CType → Linkage → Option ℕ → Bool
+clashes_at s t how (Some i) = clashes_as s t how (slice_get s.meanings i)
+clashes_at s t how None = false
 
 abbrev pub clashes : Tables → Name → CType → Linkage → Bool
-clashes s name t how = clashes_as s t how (file_meaning s name.text)
+clashes s name t how = clashes_at s t how (place_of s.names name.text)
 
 -- what one declaration says alone, and what it adds to what those before it say
 abbrev pub alone : Linkage → State
@@ -65,7 +73,7 @@ abbrev pub first_known : Name → CType → Linkage → Known
 first_known name t how = record { name = name.text; ctype = t; place = name.place; state = alone how }
 
 abbrev pub with_known : Known → Tables → Tables
-with_known k s = record s { names = s.names ++ k.name ∷ []; meanings = s.meanings ++ Extern (length s.externs) ∷ []; externs = s.externs ++ k ∷ [] }
+with_known k s = record s { names = added s.names k.name; meanings = s.meanings ++ Extern (length s.externs) ∷ []; externs = s.externs ++ k ∷ [] }
 
 -- a function or global that is known already keeps the type and the place of its first declaration
 abbrev pub with_state : State → Known → Known
@@ -79,17 +87,21 @@ abbrev pub declared_again : ℕ → Name → Linkage → Option Known → Step �
 declared_again n name how (Some k) s = refuse (is_late how k.state) 40 name.place (Ok (n, record s { externs = slice_set s.externs n (with_state (together k.state how) k) }))
 declared_again n name how None s = fault 21 name.place
 
-abbrev pub declared_as : Name → CType → Linkage → Option Meaning → Step ℕ
-declared_as name t how (Some (Extern n)) s = declared_again n name how (slice_get s.externs n) s
-declared_as name t how (Some (Constant n)) s = fault 21 name.place
-declared_as name t how (Some Null) s = fault 21 name.place
-declared_as name t how (Some (Typedef u)) s = fault 21 name.place
-declared_as name t how (Some (Intrinsic i)) s = fault 21 name.place
-declared_as name t how None s = Ok (length s.externs, with_known (first_known name t how) s)
+abbrev pub declared_as : Name → Linkage → Option Meaning → Step ℕ
+declared_as name how (Some (Extern n)) s = declared_again n name how (slice_get s.externs n) s
+declared_as name how (Some (Constant n)) s = fault 21 name.place
+declared_as name how (Some Null) s = fault 21 name.place
+declared_as name how (Some (Typedef u)) s = fault 21 name.place
+declared_as name how (Some (Intrinsic i)) s = fault 21 name.place
+declared_as name how None s = fault 21 name.place
+
+abbrev pub declared_at : Name → CType → Linkage → Option ℕ → Step ℕ
+declared_at name t how (Some i) s = declared_as name how (slice_get s.meanings i) s
+declared_at name t how None s = Ok (length s.externs, with_known (first_known name t how) s)
 
 -- its number is its place in the order of first sight
 abbrev pub declared : Name → CType → Linkage → Step ℕ
-declared name t how s = declared_as name t how (file_meaning s name.text) s
+declared name t how s = declared_at name t how (place_of s.names name.text) s
 
 -- A global: it has one type, that is complete unless the declaration is extern or its initialiser gives its length.
 abbrev pub declare_object : Name → CType → Linkage → Bool → Step ℕ

@@ -1,5 +1,5 @@
 -- What the headers declare (C11 7.20, and arm_cmse.h of ECM0359818).
-use Rattle.std.specs.Prelude.{ℕ, ◌∷◌, Bool, true, cond, is_some, List, [], codes, Ok}
+use Rattle.std.specs.Prelude.{ℕ, ◌∷◌, Bool, true, cond, List, [], codes, Ok}
 use Rattle.cm_base.specs.declared.place.Place.{Place}
 use Rattle.c_lex.specs.declared.token.Header.{Header}
 use Rattle.c_lex.specs.declared.token.Header.TheVariants.{StdInt, ArmCmse}
@@ -11,8 +11,7 @@ use Rattle.c_rows.specs.Answers.{fault}
 use Rattle.c_scope.specs.declared.tables.Meaning.{Meaning}
 use Rattle.c_scope.specs.declared.tables.Meaning.TheVariants.{Constant, Null, Typedef, Intrinsic}
 use Rattle.c_scope.specs.declared.tables.Tables.{Tables}
-use Rattle.c_scope.specs.FileScope.{with_meaning}
-use Rattle.c_scope.specs.Lookup.{file_meaning}
+use Rattle.c_scope.specs.FileScope.{is_declared, with_meaning}
 use Rattle.c_scope.specs.Steps.{Step, ◌>>>◌, refuse}
 
 abbrev pub type_of : Arith → Meaning
@@ -47,7 +46,7 @@ arm_cmse =
 
 -- a name that a header declares
 abbrev pub header_name : List ℕ → Meaning → Place → Step (Unit {0})
-header_name text m place s = refuse (is_some (file_meaning s text)) 21 place (Ok (tt, with_meaning text m s))
+header_name text m place s = refuse (is_declared s text) 21 place (Ok (tt, with_meaning text m s))
 
 abbrev pub header_names : List (List ℕ × Meaning) → Place → Step (Unit {0})
 header_names [] place s = Ok (tt, s)

@@ -13,7 +13,7 @@ use Rattle.c_scope.specs.declared.tables.Tables.{Tables}
 use Rattle.c_scope.specs.declared.tables.Tag.{Tag}
 use Rattle.c_scope.specs.declared.tables.Tag.TheVariants.{Struct, Enum}
 use Rattle.c_scope.specs.declared.tables.TagInBlock.{TagInBlock}
-use Rattle.c_scope.specs.Index.{place_of}
+use Rattle.c_scope.specs.Index.{added, place_of}
 use Rattle.c_scope.specs.Layout.{rounded}
 use Rattle.c_scope.specs.Lookup.{at_place}
 use Rattle.c_scope.specs.Steps.{Step, ◌>>>◌, keeping, refuse}
@@ -35,7 +35,7 @@ abbrev pub tag_in : Scope → Tables → List ℕ → Option Tag
 tag_in scope s text = cond scope.is_file (file_tag s text) (newest_from None (drop scope.tags s.block_tags) text)
 
 abbrev pub with_file_tag : List ℕ → Tag → Tables → Tables
-with_file_tag text tag s = record s { tags = s.tags ++ text ∷ []; tag_meanings = s.tag_meanings ++ tag ∷ [] }
+with_file_tag text tag s = record s { tags = added s.tags text; tag_meanings = s.tag_meanings ++ tag ∷ [] }
 
 abbrev pub with_block_tag : List ℕ → Tag → Tables → Tables
 with_block_tag text tag s = record s { block_tags = s.block_tags ++ record { name = text; tag = tag } ∷ [] }

@@ -95,9 +95,9 @@ fn add_named(
 {
     match u32::try_from(tables.locals.len()) {
         Ok(n) => {
-            let text = name.text.try_clone(alloc)?;
+            let text = List::from_slice(alloc, name.text.as_slice())?;
             tables.blocks.push(InBlock { name: text, local: n })?;
-            let text = name.text.try_clone(alloc)?;
+            let text = List::from_slice(alloc, name.text.as_slice())?;
             tables.locals.push(TLocal { name: text, ctype })?;
             Ok(n)
         }

@@ -3,24 +3,34 @@
 ghost use Rattle.std.specs.Prelude.{◌≡◌, IfOk, slice_get};
 ghost use Rattle.c_types.specs.Kind.{look};
 ghost use Rattle.c_scope.specs.FileScope as spec;
-ghost use Rattle.c_scope.specs.Lookup.{file_meaning};
 ghost use Rattle.c_scope.specs.Steps.{Leaves};
 
 use crate::blocks::is_made;
-use crate::lookup::file_meaning;
 use crate::tables::{Known, Linkage, Meaning, State, Tables};
 use c_ast::Name;
 use c_rows::{TypeFault, at};
 use c_types::{CType, Shape, same_type};
-use cm_base::{NoMemory, Text};
+use cm_base::{List, NoMemory};
 use cmse_rules::{has_secure_pointer, is_reserved};
 use std::alloc::Global;
 
-/// Adds a name of file scope.
-pub fn add_meaning(tables: &mut Tables, text: Text, meaning: Meaning) -> Result<(), NoMemory>
-    ensures { IfOk result (λ _. tables.new ≡ spec.with_meaning text meaning tables.old) }
+/// Whether file scope has a name already.
+pub fn is_declared(tables: &Tables, text: &[u8]) -> bool
+    ensures { result ≡ spec.is_declared tables.now text.now }
 {
-    tables.names.push(text)?;
+    tables.names.place_of(text).is_some()
+}
+
+/// Adds a name of file scope.
+pub fn add_meaning(
+    alloc: Global,
+    tables: &mut Tables,
+    text: &[u8],
+    meaning: Meaning,
+) -> Result<(), NoMemory>
+    ensures { IfOk result (λ _. tables.new ≡ spec.with_meaning text.now meaning tables.old) }
+{
+    tables.names.add(alloc, text)?;
     tables.meanings.push(meaning)
 }
 
@@ -34,7 +44,7 @@ pub fn declare_typedef(
 ) -> Result<(), TypeFault>
     ensures { Leaves result tables.new (spec.declare_typedef name.now ctype tables.old) }
 {
-    if file_meaning(tables, name.text.as_slice()).is_some() {
+    if is_declared(tables, name.text.as_slice()) {
         return Err(at(21, name.place));
     }
     if !ctype.fits() {
@@ -46,8 +56,8 @@ pub fn declare_typedef(
     if is_reserved(name.text.as_slice()) {
         return Err(at(45, name.place));
     }
-    let text = name.text.try_clone(alloc)?;
-    Ok(add_meaning(tables, text, Meaning::Typedef(ctype))?)
+    let meaning = Meaning::Typedef(ctype);
+    Ok(add_meaning(alloc, tables, name.text.as_slice(), meaning)?)
 }
 
 /// Declares an enumeration constant. At its name it is E21 where file scope has the name already, and E45 where it is
@@ -60,21 +70,30 @@ pub fn declare_constant(
 ) -> Result<(), TypeFault>
     ensures { Leaves result tables.new (spec.declare_constant name.now n tables.old) }
 {
-    if file_meaning(tables, name.text.as_slice()).is_some() {
+    if is_declared(tables, name.text.as_slice()) {
         return Err(at(21, name.place));
     }
     if is_reserved(name.text.as_slice()) {
         return Err(at(45, name.place));
     }
-    let text = name.text.try_clone(alloc)?;
-    Ok(add_meaning(tables, text, Meaning::Constant(n))?)
+    let meaning = Meaning::Constant(n);
+    Ok(add_meaning(alloc, tables, name.text.as_slice(), meaning)?)
 }
 
 /// Whether a declaration doesn't go with those of its name before it.
 fn clashes(tables: &Tables, name: &Name, t: &CType, how: Linkage) -> bool
     ensures { result ≡ spec.clashes tables.now name.now t.now how }
 {
-    match file_meaning(tables, name.text.as_slice()) {
+    match tables.names.place_of(name.text.as_slice()) {
+        Some(i) => clashes_at(tables, i, t, how),
+        None => false,
+    }
+}
+
+fn clashes_at(tables: &Tables, i: usize, t: &CType, how: Linkage) -> bool
+    ensures { result ≡ spec.clashes_at tables.now t.now how (Some i) }
+{
+    match tables.meanings.get(i) {
         Some(Meaning::Extern(n)) => match tables.externs.get(*n as usize) {
             Some(known) => clashes_with(known, t, how),
             None => true,
@@ -83,7 +102,7 @@ fn clashes(tables: &Tables, name: &Name, t: &CType, how: Linkage) -> bool
         Some(Meaning::Null) => true,
         Some(Meaning::Typedef(_)) => true,
         Some(Meaning::Intrinsic(_)) => true,
-        None => false,
+        None => true,
     }
 }
 
@@ -137,13 +156,12 @@ fn declared_first(
     ctype: CType,
     how: Linkage,
 ) -> Result<u32, TypeFault>
-    ensures { Leaves result tables.new (spec.declared_as name.now ctype how None tables.old) }
+    ensures { Leaves result tables.new (spec.declared_at name.now ctype how None tables.old) }
 {
     match u32::try_from(tables.externs.len()) {
         Ok(n) => {
-            let text = name.text.try_clone(alloc)?;
-            add_meaning(tables, text, Meaning::Extern(n))?;
-            let text = name.text.try_clone(alloc)?;
+            add_meaning(alloc, tables, name.text.as_slice(), Meaning::Extern(n))?;
+            let text = List::from_slice(alloc, name.text.as_slice())?;
             tables.externs.push(Known {
                 name: text,
                 ctype,
@@ -190,7 +208,22 @@ fn declared(
 ) -> Result<u32, TypeFault>
     ensures { Leaves result tables.new (spec.declared name.now ctype how tables.old) }
 {
-    match file_meaning(tables, name.text.as_slice()) {
+    match tables.names.place_of(name.text.as_slice()) {
+        Some(i) => declared_as(alloc, tables, i, name, how),
+        None => declared_first(alloc, tables, name, ctype, how),
+    }
+}
+
+fn declared_as(
+    alloc: Global,
+    tables: &mut Tables,
+    i: usize,
+    name: &Name,
+    how: Linkage,
+) -> Result<u32, TypeFault>
+    ensures { Leaves result tables.new (spec.declared_as name.now how (slice_get tables.old.meanings i) tables.old) }
+{
+    match tables.meanings.get(i) {
         Some(Meaning::Extern(n)) => {
             let n = *n;
             declared_again(alloc, tables, n, name, how)
@@ -199,7 +232,7 @@ fn declared(
         Some(Meaning::Null) => Err(at(21, name.place)),
         Some(Meaning::Typedef(_)) => Err(at(21, name.place)),
         Some(Meaning::Intrinsic(_)) => Err(at(21, name.place)),
-        None => declared_first(alloc, tables, name, ctype, how),
+        None => Err(at(21, name.place)),
     }
 }
 

@@ -5,13 +5,12 @@ ghost use Rattle.c_scope.specs.Headers as spec;
 ghost use Rattle.c_scope.specs.declared.tables.Meaning.TheVariants as meanings;
 ghost use Rattle.c_scope.specs.Steps.{Leaves};
 
-use crate::file_scope::add_meaning;
-use crate::lookup::file_meaning;
+use crate::file_scope::{add_meaning, is_declared};
 use crate::tables::{Meaning, Tables};
 use c_lex::token::Header;
 use c_rows::{Intrinsic, TypeFault, at};
 use c_types::{Arith, CType};
-use cm_base::{List, Place};
+use cm_base::Place;
 use std::alloc::Global;
 
 /// `#include`. A repeated one says nothing. It is E21 where file scope has one of the header's names already.
@@ -50,11 +49,10 @@ fn header_name(
 ) -> Result<(), TypeFault>
     ensures { Leaves result tables.new (spec.header_name text.now meaning place tables.old) }
 {
-    if file_meaning(tables, text.as_bytes()).is_some() {
+    if is_declared(tables, text.as_bytes()) {
         return Err(at(21, place));
     }
-    let text = List::from_slice(alloc, text.as_bytes())?;
-    Ok(add_meaning(tables, text, meaning)?)
+    Ok(add_meaning(alloc, tables, text.as_bytes(), meaning)?)
 }
 
 fn header_type(

@@ -1,27 +1,29 @@
 //! Names in order, found by their bytes.
 
-ghost use Rattle.std.specs.Prelude.{◌≡◌, [], ◌∷◌, ◌++◌, length, OnOk};
+ghost use Rattle.std.specs.Prelude.{◌≡◌, [], IfOk, length};
 ghost use Rattle.c_scope.specs.Index as spec;
 
-use cm_base::{List, NoMemory, Text};
+use cm_base::NoMemory;
+use indexmap::IndexSet;
 use std::alloc::Global;
 use std::marker::Model;
 
-/// A list of names in which the place of a name is found.
+/// Names in the order in which they were added, each once. The place of a name is found without a look at the others.
 #[derive(Drop)]
 pub struct Index {
-    names: List<Text>,
+    set: IndexSet<Vec<u8>>,
 }
 
 impl Model for Index {
-    ghost use Rattle.std.specs.Prelude.{List, ℕ};
+    ghost use Rattle.std.specs.Prelude.{List, ℕ, map};
+    ghost use Rattle.std.specs.Vec.{vec_items};
     ghost use Rattle.std.specs.Coded.{coded_list, coded_ℕ};
 
     ghost Value = { List (List ℕ) };
 
     ghost coded = { coded_list (coded_list coded_ℕ) };
 
-    ghost view = { λ it. it.names };
+    ghost view = { λ it. map vec_items it.set.keys };
 }
 
 impl Index {
@@ -30,27 +32,23 @@ impl Index {
         ensures { result ≡ [] }
     {
         Index {
-            names: List::new(alloc),
+            set: IndexSet::new(alloc),
         }
     }
 
-    pub fn len(&self) -> usize
-        ensures { result ≡ length self.now }
-    {
-        self.names.len()
-    }
-
-    /// The place of the first name of these bytes.
+    /// The place of the name of these bytes.
     pub fn place_of(&self, text: &[u8]) -> Option<usize>
         ensures { result ≡ spec.place_of self.now text.now }
     {
-        self.names.as_slice().iter().position(|name| name.as_slice() == text)
+        self.set.get_index_of(text)
     }
 
-    /// Adds a name at the end.
-    pub fn push(&mut self, name: Text) -> Result<(), NoMemory>
-        ensures { OnOk result (self.new ≡ self.old ++ name ∷ []) }
+    /// Adds a name at the end, unless it is there already.
+    pub fn add(&mut self, alloc: Global, text: &[u8]) -> Result<(), NoMemory>
+        ensures { IfOk result (λ _. self.new ≡ spec.added self.old text.now) }
     {
-        self.names.push(name)
+        let name = Vec::from_slice(alloc, text)?;
+        self.set.insert(name)?;
+        Ok(())
     }
 }

@@ -12,7 +12,7 @@ use crate::tables::{Layout, Member, StructInfo, Tables};
 use c_ast::Name;
 use c_rows::{TypeFault, at};
 use c_types::{CType, Shape, type_align, type_size};
-use cm_base::Place;
+use cm_base::{List, Place};
 use cmse_rules::has_secure_pointer;
 use std::alloc::Global;
 
@@ -87,7 +87,7 @@ impl Layout {
             return Err(at(29, name.place));
         }
         let offset = capped(rounded(self.size, align));
-        let text = name.text.try_clone(alloc)?;
+        let text = List::from_slice(alloc, name.text.as_slice())?;
         self.members.push(Member {
             name: text,
             ctype,

@@ -61,8 +61,7 @@ fn add_file_tag(
 ) -> Result<(), NoMemory>
     ensures { IfOk result (λ _. tables.new ≡ spec.with_file_tag name.now.text tag tables.old) }
 {
-    let text = name.text.try_clone(alloc)?;
-    tables.tags.push(text)?;
+    tables.tags.add(alloc, name.text.as_slice())?;
     tables.tag_meanings.push(tag)
 }
 
@@ -79,7 +78,7 @@ fn add_tag(
     if scope.is_file {
         return add_file_tag(alloc, tables, name, tag);
     }
-    let text = name.text.try_clone(alloc)?;
+    let text = List::from_slice(alloc, name.text.as_slice())?;
     tables.block_tags.push(TagInBlock { name: text, tag })
 }
 
@@ -154,7 +153,7 @@ fn first_seen(
     add_tag(alloc, tables, scope, name, Tag::Struct(n))?;
     Ok(CType::plain(Shape::Struct {
         number: n,
-        name: name.text.try_clone(alloc)?,
+        name: List::from_slice(alloc, name.text.as_slice())?,
         size: 0,
         align: 0,
     }))

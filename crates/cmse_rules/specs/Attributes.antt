@@ -5,7 +5,7 @@ use Rattle.c_ast.specs.declared.expr.Attr.{Attr}
 use Rattle.c_ast.specs.declared.expr.Name.{Name}
 use Rattle.c_ast.specs.declared.expr.One.{One}
 use Rattle.c_ast.specs.declared.expr.One.TheVariants.{Plain, With}
-use Rattle.c_rows.specs.Rows.{Checked, ◌>>=◌, fault}
+use Rattle.c_rows.specs.Answers.{Checked, ◌>>=◌, fault}
 use Rattle.cmse_rules.specs.declared.attributes.Attributes.{Attributes}
 use Rattle.cmse_rules.specs.declared.attributes.Subject.{Subject}
 use Rattle.cmse_rules.specs.declared.attributes.Subject.TheVariants.{Function, Global, Other}

@@ -10,7 +10,7 @@ use Rattle.c_types.specs.declared.ctype.Shape.TheVariants as made
 use Rattle.c_types.specs.declared.ctype.Shape.TheOpen as shape
 use Rattle.c_types.specs.declared.ctype.Shape.TheOpen.{Shape-F, CType-F}
 use Rattle.c_types.specs.declared.ctype.Shape.TheFolds.{fold-CType}
-use Rattle.c_rows.specs.Rows.{Checked, fault}
+use Rattle.c_rows.specs.Answers.{Checked, fault}
 
 -- how many pointers and arrays lead to what isn't one
 abbrev pub shape_steps : Shape-F ℕ ℕ → ℕ

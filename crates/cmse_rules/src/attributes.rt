@@ -1,7 +1,7 @@
 //! Attributes.
 
 ghost use Rattle.std.specs.Prelude.{◌≡◌, ◌||◌, bytes_eq};
-ghost use Rattle.c_rows.specs.Rows.{Gives};
+ghost use Rattle.c_rows.specs.Answers.{Gives};
 ghost use Rattle.cmse_rules.specs.Attributes as spec;
 
 use c_ast::{Attr, Name, One};

@@ -1,7 +1,7 @@
 //! Non-secure function types, and pointers to Secure functions.
 
 ghost use Rattle.std.specs.Prelude.{◌≡◌, IfOk};
-ghost use Rattle.c_rows.specs.Rows.{Gives};
+ghost use Rattle.c_rows.specs.Answers.{Gives};
 ghost use Rattle.cmse_rules.specs.Pointers as spec;
 
 use c_rows::{TypeFault, at};
