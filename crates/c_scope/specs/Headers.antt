@@ -8,6 +8,8 @@ use Rattle.c_types.specs.declared.arith.Arith.{Arith}
 use Rattle.c_types.specs.declared.arith.Arith.TheVariants as a
 use Rattle.c_rows.specs.declared.intrinsics.Intrinsic.TheVariants as call
 use Rattle.c_rows.specs.Answers.{fault}
+use Rattle.c_scope.specs.declared.headers.HeaderName.{HeaderName}
+use Rattle.c_scope.specs.declared.headers.HeaderName.TheVariants as name
 use Rattle.c_scope.specs.declared.tables.Meaning.{Meaning}
 use Rattle.c_scope.specs.declared.tables.Meaning.TheVariants.{Constant, Null, Typedef, Intrinsic}
 use Rattle.c_scope.specs.declared.tables.Tables.{Tables}
@@ -17,40 +19,66 @@ use Rattle.c_scope.specs.Steps.{Step, ◌>>>◌, refuse}
 abbrev pub type_of : Arith → Meaning
 type_of k = Typedef (arith_type k)
 
-abbrev pub std_int : List (List ℕ × Meaning)
-std_int =
-    (codes "int8_t", type_of a.SignedChar) ∷
-    (codes "uint8_t", type_of a.UnsignedChar) ∷
-    (codes "int16_t", type_of a.Short) ∷
-    (codes "uint16_t", type_of a.UnsignedShort) ∷
-    (codes "int32_t", type_of a.Int) ∷
-    (codes "uint32_t", type_of a.Unsigned) ∷
-    (codes "intptr_t", type_of a.Int) ∷
-    (codes "uintptr_t", type_of a.Unsigned) ∷ []
+abbrev pub text_of : HeaderName → List ℕ
+text_of name.Int8T = codes "int8_t"
+text_of name.Uint8T = codes "uint8_t"
+text_of name.Int16T = codes "int16_t"
+text_of name.Uint16T = codes "uint16_t"
+text_of name.Int32T = codes "int32_t"
+text_of name.Uint32T = codes "uint32_t"
+text_of name.IntptrT = codes "intptr_t"
+text_of name.UintptrT = codes "uintptr_t"
+text_of name.SizeT = codes "size_t"
+text_of name.NullPointer = codes "NULL"
+text_of name.MpuReadWrite = codes "CMSE_MPU_READWRITE"
+text_of name.AuNonsecure = codes "CMSE_AU_NONSECURE"
+text_of name.MpuUnpriv = codes "CMSE_MPU_UNPRIV"
+text_of name.MpuRead = codes "CMSE_MPU_READ"
+text_of name.MpuNonsecure = codes "CMSE_MPU_NONSECURE"
+text_of name.Nonsecure = codes "CMSE_NONSECURE"
+text_of name.CheckAddressRange = codes "cmse_check_address_range"
+text_of name.CheckPointedObject = codes "cmse_check_pointed_object"
+text_of name.NsfptrCreate = codes "cmse_nsfptr_create"
+text_of name.IsNsfptr = codes "cmse_is_nsfptr"
+text_of name.NonsecureCaller = codes "cmse_nonsecure_caller"
 
-abbrev pub arm_cmse : List (List ℕ × Meaning)
-arm_cmse =
-    (codes "size_t", type_of a.Unsigned) ∷
-    (codes "NULL", Null) ∷
-    (codes "CMSE_MPU_READWRITE", Constant 1) ∷
-    (codes "CMSE_AU_NONSECURE", Constant 2) ∷
-    (codes "CMSE_MPU_UNPRIV", Constant 4) ∷
-    (codes "CMSE_MPU_READ", Constant 8) ∷
-    (codes "CMSE_MPU_NONSECURE", Constant 16) ∷
-    (codes "CMSE_NONSECURE", Constant 18) ∷
-    (codes "cmse_check_address_range", Intrinsic call.CheckRange) ∷
-    (codes "cmse_check_pointed_object", Intrinsic call.CheckObject) ∷
-    (codes "cmse_nsfptr_create", Intrinsic call.CreatePointer) ∷
-    (codes "cmse_is_nsfptr", Intrinsic call.IsPointer) ∷
-    (codes "cmse_nonsecure_caller", Intrinsic call.Caller) ∷ []
+abbrev pub meaning_of : HeaderName → Meaning
+meaning_of name.Int8T = type_of a.SignedChar
+meaning_of name.Uint8T = type_of a.UnsignedChar
+meaning_of name.Int16T = type_of a.Short
+meaning_of name.Uint16T = type_of a.UnsignedShort
+meaning_of name.Int32T = type_of a.Int
+meaning_of name.Uint32T = type_of a.Unsigned
+meaning_of name.IntptrT = type_of a.Int
+meaning_of name.UintptrT = type_of a.Unsigned
+meaning_of name.SizeT = type_of a.Unsigned
+meaning_of name.NullPointer = Null
+meaning_of name.MpuReadWrite = Constant 1
+meaning_of name.AuNonsecure = Constant 2
+meaning_of name.MpuUnpriv = Constant 4
+meaning_of name.MpuRead = Constant 8
+meaning_of name.MpuNonsecure = Constant 16
+meaning_of name.Nonsecure = Constant 18
+meaning_of name.CheckAddressRange = Intrinsic call.CheckRange
+meaning_of name.CheckPointedObject = Intrinsic call.CheckObject
+meaning_of name.NsfptrCreate = Intrinsic call.CreatePointer
+meaning_of name.IsNsfptr = Intrinsic call.IsPointer
+meaning_of name.NonsecureCaller = Intrinsic call.Caller
+
+-- stdint.h
+abbrev pub std_int : List HeaderName
+std_int = name.Int8T ∷ name.Uint8T ∷ name.Int16T ∷ name.Uint16T ∷ name.Int32T ∷ name.Uint32T ∷ name.IntptrT ∷ name.UintptrT ∷ []
+
+abbrev pub arm_cmse : List HeaderName
+arm_cmse = name.SizeT ∷ name.NullPointer ∷ name.MpuReadWrite ∷ name.AuNonsecure ∷ name.MpuUnpriv ∷ name.MpuRead ∷ name.MpuNonsecure ∷ name.Nonsecure ∷ name.CheckAddressRange ∷ name.CheckPointedObject ∷ name.NsfptrCreate ∷ name.IsNsfptr ∷ name.NonsecureCaller ∷ []
 
 -- a name that a header declares
-abbrev pub header_name : List ℕ → Meaning → Place → Step (Unit {0})
-header_name text m place s = refuse (is_declared s text) 21 place (Ok (tt, with_meaning text m s))
+unfoldable pub header_name : HeaderName → Place → Step (Unit {0})
+header_name n place s = refuse (is_declared s (text_of n)) 21 place (Ok (tt, with_meaning (text_of n) (meaning_of n) s))
 
-abbrev pub header_names : List (List ℕ × Meaning) → Place → Step (Unit {0})
+abbrev pub header_names : List HeaderName → Place → Step (Unit {0})
 header_names [] place s = Ok (tt, s)
-header_names (n ∷ more) place s = header_name n.0 n.1 place s >>> (λ _ u. header_names more place u)
+header_names (n ∷ more) place s = header_name n place s >>> (λ _ u. header_names more place u)
 
 -- An include: a repeated one says nothing.
 abbrev pub include : Header → Place → Step (Unit {0})

@@ -1,5 +1,6 @@
 -- Tags: what they mean, and their declarations (C11 6.7.2.2, 6.7.2.3).
 use Rattle.std.specs.Prelude.{ℕ, ◌∷◌, ◌++◌, Bool, true, false, cond, ltb, is_some, List, [], length, drop, slice_get, slice_set, bytes_eq, Option, Some, None, Ok}
+use Rattle.std.specs.List.{list_any}
 use Rattle.cm_base.specs.declared.place.Place.{Place}
 use Rattle.c_ast.specs.declared.expr.Name.{Name}
 use Rattle.c_types.specs.Derived.{plain}
@@ -30,9 +31,13 @@ file_tag s text = at_place s.tag_meanings (place_of s.tags text)
 abbrev pub tag_of : Tables → List ℕ → Option Tag
 tag_of s text = newest_from (file_tag s text) s.block_tags text
 
+-- whether the innermost block declares a tag
+abbrev pub is_in_block : List TagInBlock → ℕ → List ℕ → Bool
+is_in_block tags from text = list_any (λ (b : TagInBlock). bytes_eq b.name text) (drop from tags)
+
 -- what the innermost scope itself declares
 abbrev pub tag_in : Scope → Tables → List ℕ → Option Tag
-tag_in scope s text = cond scope.is_file (file_tag s text) (newest_from None (drop scope.tags s.block_tags) text)
+tag_in scope s text = cond scope.is_file (file_tag s text) (cond (is_in_block s.block_tags scope.tags text) (newest_from None s.block_tags text) None)
 
 abbrev pub with_file_tag : List ℕ → Tag → Tables → Tables
 with_file_tag text tag s = record s { tags = added s.tags text; tag_meanings = s.tag_meanings ++ tag ∷ [] }

@@ -1,6 +1,8 @@
 //! What a name means.
 
-ghost use Rattle.std.specs.Prelude.{◌≡◌, option_copied, slice_get};
+ghost use Rattle.std.specs.Prelude.{◌≡◌, IfOk, option_copied, slice_get};
+ghost use Rattle.c_rows.specs.Nodes as nodes;
+ghost use Rattle.c_scope.specs.Refresh as types;
 ghost use Rattle.c_rows.specs.Answers.{Gives};
 ghost use Rattle.c_scope.specs.Lookup as spec;
 
@@ -10,7 +12,7 @@ use c_ast::Name;
 use c_rows::{Intrinsic, TypeFault, at, constant_node, node, null_node};
 use c_tree::{Expr, ExprKind};
 use c_types::CType;
-use cm_base::{Place, Shared};
+use cm_base::{NoMemory, Place, Shared};
 use std::alloc::Global;
 
 /// The number of the local that a name of the open blocks means.
@@ -47,6 +49,20 @@ pub fn named(alloc: Global, tables: &Tables, name: &Name) -> Result<Shared<Expr>
     }
 }
 
+/// A node of a declared type, as that stands now.
+fn typed_node(
+    alloc: Global,
+    tables: &Tables,
+    kind: ExprKind,
+    t: &CType,
+    place: Place,
+) -> Result<Shared<Expr>, NoMemory>
+    ensures { IfOk result (λ e. e ≡ nodes.node kind (types.refreshed tables.now.structs t.now) place) }
+{
+    let t = refreshed(alloc, t, tables.structs.as_slice())?;
+    node(alloc, kind, t, place)
+}
+
 fn local_node(
     alloc: Global,
     tables: &Tables,
@@ -57,8 +73,8 @@ fn local_node(
 {
     match tables.locals.get(n as usize) {
         Some(local) => {
-            let t = refreshed(alloc, &local.ctype, tables.structs.as_slice())?;
-            Ok(node(alloc, ExprKind::Local(n), t, place)?)
+            let kind = ExprKind::Local(n);
+            Ok(typed_node(alloc, tables, kind, &local.ctype, place)?)
         }
         None => Err(at(20, place)),
     }
@@ -92,8 +108,8 @@ fn extern_node(
 {
     match tables.externs.get(n as usize) {
         Some(known) => {
-            let t = refreshed(alloc, &known.ctype, tables.structs.as_slice())?;
-            Ok(node(alloc, ExprKind::Global(n), t, place)?)
+            let kind = ExprKind::Global(n);
+            Ok(typed_node(alloc, tables, kind, &known.ctype, place)?)
         }
         None => Err(at(20, place)),
     }

@@ -1,6 +1,6 @@
 //! Types as they stand now.
 
-ghost use Rattle.std.specs.Prelude.{◌≡◌, IfOk, option_copied};
+ghost use Rattle.std.specs.Prelude.{◌≡◌, IfOk, slice_get};
 ghost use Rattle.c_scope.specs.Refresh as spec;
 
 use crate::tables::StructInfo;
@@ -49,8 +49,7 @@ fn refreshed_shape(
             align,
         } => {
             let name = name.try_clone(alloc)?;
-            let known = structs.get(*number as usize);
-            Ok(struct_now(*number, name, *size, *align, known))
+            Ok(struct_now(*number, name, *size, *align, structs))
         }
         Shape::Function {
             gives,
@@ -74,11 +73,11 @@ fn struct_now(
     name: Text,
     size: u32,
     align: u32,
-    known: Option<&StructInfo>,
+    structs: &[StructInfo],
 ) -> Shape
-    ensures { result ≡ spec.struct_now number name size align (option_copied known.entry) }
+    ensures { result ≡ spec.struct_now number name size align (slice_get structs.now number) }
 {
-    match known {
+    match structs.get(number as usize) {
         Some(info) => Shape::Struct {
             number,
             name,

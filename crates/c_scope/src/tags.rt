@@ -50,7 +50,19 @@ fn tag_in(scope: Scope, tables: &Tables, text: &[u8]) -> Option<Tag>
         return file_tag(tables, text);
     }
     let all = tables.block_tags.as_slice();
-    newest(None, &all[scope.tags.min(all.len())..], text)
+    if is_in_block(all, scope.tags, text) {
+        return newest(None, all, text);
+    }
+    None
+}
+
+/// Whether the block that begins at this place of the tags declares a tag.
+fn is_in_block(tags: &[TagInBlock], from: usize, text: &[u8]) -> bool
+    ensures { result ≡ spec.is_in_block tags.now from text.now }
+{
+    tags.iter()
+        .skip(from)
+        .any(|b| b.name.as_slice() == text)
 }
 
 fn add_file_tag(
