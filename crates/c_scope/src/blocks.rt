@@ -58,10 +58,7 @@ pub fn close_parameters(tables: &mut Tables, scope: Scope)
 fn is_declared(names: &[InBlock], from: usize, text: &[u8]) -> bool
     ensures { result ≡ spec.is_declared names.now from text.now }
 {
-    names
-        .iter()
-        .skip(from)
-        .any(|b| b.name.as_slice() == text)
+    names.iter().skip(from).any(|b| b.name.as_slice() == text)
 }
 
 /// Whether it is an array whose length its initialiser gives.
@@ -96,7 +93,10 @@ fn add_named(
     match u32::try_from(tables.locals.len()) {
         Ok(n) => {
             let text = List::from_slice(alloc, name.text.as_slice())?;
-            tables.blocks.push(InBlock { name: text, local: n })?;
+            tables.blocks.push(InBlock {
+                name: text,
+                local: n,
+            })?;
             let text = List::from_slice(alloc, name.text.as_slice())?;
             tables.locals.push(TLocal { name: text, ctype })?;
             Ok(n)

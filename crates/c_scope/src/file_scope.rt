@@ -109,8 +109,7 @@ fn clashes_at(tables: &Tables, i: usize, t: &CType, how: Linkage) -> bool
 fn clashes_with(known: &Known, t: &CType, how: Linkage) -> bool
     ensures { result ≡ spec.clashes_with t.now how (Some known.now) }
 {
-    !same_type(&known.ctype, t)
-        || !t.is_function() && known.state.is_plain && !how.is_extern
+    !same_type(&known.ctype, t) || !t.is_function() && known.state.is_plain && !how.is_extern
 }
 
 /// What one declaration says alone.

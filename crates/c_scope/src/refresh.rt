@@ -21,11 +21,7 @@ pub fn refreshed(alloc: Global, t: &CType, structs: &[StructInfo]) -> Result<CTy
 }
 
 #[cycle(refresh)]
-fn refreshed_shape(
-    alloc: Global,
-    shape: &Shape,
-    structs: &[StructInfo],
-) -> Result<Shape, NoMemory>
+fn refreshed_shape(alloc: Global, shape: &Shape, structs: &[StructInfo]) -> Result<Shape, NoMemory>
     ensures { IfOk result (λ r. r ≡ spec.refreshed_shape structs.now shape.now) }
 {
     match shape {
@@ -68,13 +64,7 @@ fn refreshed_shape(
 }
 
 /// A struct as its table has it, where there is one.
-fn struct_now(
-    number: u32,
-    name: Text,
-    size: u32,
-    align: u32,
-    structs: &[StructInfo],
-) -> Shape
+fn struct_now(number: u32, name: Text, size: u32, align: u32, structs: &[StructInfo]) -> Shape
     ensures { result ≡ spec.struct_now number name size align (slice_get structs.now number) }
 {
     match structs.get(number as usize) {

@@ -60,17 +60,10 @@ fn tag_in(scope: Scope, tables: &Tables, text: &[u8]) -> Option<Tag>
 fn is_in_block(tags: &[TagInBlock], from: usize, text: &[u8]) -> bool
     ensures { result ≡ spec.is_in_block tags.now from text.now }
 {
-    tags.iter()
-        .skip(from)
-        .any(|b| b.name.as_slice() == text)
+    tags.iter().skip(from).any(|b| b.name.as_slice() == text)
 }
 
-fn add_file_tag(
-    alloc: Global,
-    tables: &mut Tables,
-    name: &Name,
-    tag: Tag,
-) -> Result<(), NoMemory>
+fn add_file_tag(alloc: Global, tables: &mut Tables, name: &Name, tag: Tag) -> Result<(), NoMemory>
     ensures { IfOk result (λ _. tables.new ≡ spec.with_file_tag name.now.text tag tables.old) }
 {
     tables.tags.add(alloc, name.text.as_slice())?;
@@ -138,12 +131,7 @@ fn struct_type(alloc: Global, n: u32, info: &StructInfo) -> Result<CType, NoMemo
     }))
 }
 
-fn known_type(
-    alloc: Global,
-    tables: &Tables,
-    n: u32,
-    place: Place,
-) -> Result<CType, TypeFault>
+fn known_type(alloc: Global, tables: &Tables, n: u32, place: Place) -> Result<CType, TypeFault>
     ensures { Gives result (spec.known_type n place (slice_get tables.now.structs n)) }
 {
     match tables.structs.get(n as usize) {
@@ -243,12 +231,7 @@ fn begin_tagged(alloc: Global, tables: &mut Tables, name: &Name) -> Result<u32, 
     }
 }
 
-fn begin_again(
-    alloc: Global,
-    tables: &mut Tables,
-    n: u32,
-    name: &Name,
-) -> Result<u32, TypeFault>
+fn begin_again(alloc: Global, tables: &mut Tables, n: u32, name: &Name) -> Result<u32, TypeFault>
     ensures { Leaves result tables.new (spec.begun_again n name.now (slice_get tables.old.structs n) tables.old) }
 {
     match tables.structs.get(n as usize) {
@@ -309,11 +292,7 @@ pub fn enum_use(tables: &Tables, name: &Name) -> Result<(), TypeFault>
 }
 
 /// `enum e {` or `enum {` at file scope. It is E21 at a tag that is declared already.
-pub fn begin_enum(
-    alloc: Global,
-    tables: &mut Tables,
-    name: Option<&Name>,
-) -> Result<(), TypeFault>
+pub fn begin_enum(alloc: Global, tables: &mut Tables, name: Option<&Name>) -> Result<(), TypeFault>
     ensures { Leaves result tables.new (spec.begin_enum (option_copied name.entry) tables.old) }
 {
     match name {

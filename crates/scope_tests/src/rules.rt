@@ -3,9 +3,7 @@
 use c_rows::TypeFault;
 use c_types::{Arith, CType};
 use cm_base::{List, NoMemory, Place, Shared};
-use cmse_rules::{
-    entry_rule, has_secure_pointer, is_reserved, nonsecure_declared, reached_params,
-};
+use cmse_rules::{entry_rule, has_secure_pointer, is_reserved, nonsecure_declared, reached_params};
 use std::alloc::Global;
 use std::test::Fail;
 

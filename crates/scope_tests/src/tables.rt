@@ -64,13 +64,21 @@ fn header_types(alloc: Global) -> Result<bool, TypeFault> {
 fn header_values(alloc: Global) -> Result<bool, TypeFault> {
     let mut tables = Tables::new(alloc);
     include(alloc, &mut tables, Header::ArmCmse, place(1))?;
-    let all = named(alloc, &tables, &name(alloc, 2, b"CMSE_NONSECURE".as_slice())?)?;
+    let all = named(
+        alloc,
+        &tables,
+        &name(alloc, 2, b"CMSE_NONSECURE".as_slice())?,
+    )?;
     let null = named(alloc, &tables, &name(alloc, 3, b"NULL".as_slice())?)?;
     let is_18 = match &all.get().kind {
         ExprKind::Const(n) => *n == 18,
         _ => false,
     };
-    let _call = named(alloc, &tables, &name(alloc, 4, b"cmse_is_nsfptr".as_slice())?)?;
+    let _call = named(
+        alloc,
+        &tables,
+        &name(alloc, 4, b"cmse_is_nsfptr".as_slice())?,
+    )?;
     Ok(is_18 && null.get().ctype.is_void_pointer())
 }
 
@@ -99,8 +107,22 @@ fn is_local(alloc: Global, tables: &Tables, a: &Name, number: u32) -> Result<boo
 fn twice_in_a_block(alloc: Global) -> Result<bool, TypeFault> {
     let mut tables = Tables::new(alloc);
     let block = open_block(&tables);
-    declare_local(alloc, &mut tables, block, &name(alloc, 1, b"a".as_slice())?, int(), false)?;
-    declare_local(alloc, &mut tables, block, &name(alloc, 2, b"a".as_slice())?, int(), false)?;
+    declare_local(
+        alloc,
+        &mut tables,
+        block,
+        &name(alloc, 1, b"a".as_slice())?,
+        int(),
+        false,
+    )?;
+    declare_local(
+        alloc,
+        &mut tables,
+        block,
+        &name(alloc, 2, b"a".as_slice())?,
+        int(),
+        false,
+    )?;
     Ok(true)
 }
 
