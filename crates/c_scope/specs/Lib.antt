@@ -1,0 +1,9 @@
+pub mod Index
+pub mod Steps
+pub mod Refresh
+pub mod Lookup
+pub mod Tags
+pub mod Layout
+pub mod Blocks
+pub mod FileScope
+pub mod Headers

@@ -1,0 +1,4 @@
+pub mod Attributes
+pub mod Names
+pub mod Pointers
+pub mod Entry
