@@ -1,7 +1,11 @@
 //! Lookups and declarations.
 
+ghost use Rattle.std.specs.Prelude.{◌<◌, ◌^◌, length};
+
 use c_ast::Name;
-use c_lex::token::Header;
+use c_lex::lex;
+use c_lex::token::{Header, Kind};
+use c_names::Ident;
 use c_rows::TypeFault;
 use c_scope::{
     Layout, Linkage, Scope, Tables, begin_struct, close_block, declare_local, declare_object,
@@ -9,7 +13,7 @@ use c_scope::{
 };
 use c_tree::ExprKind;
 use c_types::{Arith, CType, type_size};
-use cm_base::{List, NoMemory, Place};
+use cm_base::{NoMemory, Place};
 use std::alloc::Global;
 use std::test::Fail;
 
@@ -21,10 +25,28 @@ fn place(col: u32) -> Place {
     }
 }
 
-fn name(alloc: Global, col: u32, text: &[u8]) -> Result<Name, NoMemory> {
+/// The name that a text of one name is.
+fn ident(alloc: Global, text: &[u8]) -> Result<Ident, NoMemory>
+    requires { length text.now < 2 ^ 32 }
+{
+    match lex(alloc, 0, text) {
+        Ok(tokens) => match tokens.get(0) {
+            Some(token) => match &token.kind {
+                Kind::Name(name) => name.copy(alloc),
+                _ => Err(NoMemory),
+            },
+            None => Err(NoMemory),
+        },
+        Err(_) => Err(NoMemory),
+    }
+}
+
+fn name(alloc: Global, col: u32, text: &[u8]) -> Result<Name, NoMemory>
+    requires { length text.now < 2 ^ 32 }
+{
     Ok(Name {
         place: place(col),
-        text: List::from_slice(alloc, text)?,
+        text: ident(alloc, text)?,
     })
 }
 
