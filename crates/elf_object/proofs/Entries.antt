@@ -1,7 +1,7 @@
 -- Relocation entries and symbols are read as what they were written from.
-use Rattle.std.proofs.Common.{◌≡◌, ℕ, ◌+◌, ◌-◌, ◌*◌, ◌/◌, ◌%◌, ◌^◌, ◌<◌, ◌≤◌, ◌==◌, ◌&&◌, Bool, true, false, not, cond, eqb, List, [], ◌∷◌, ◌++◌, length, take, drop, All, refl, sym, ap, ◌∙◌, arith, append_assoc, suc}
+use Rattle.std.proofs.Common.{◌≡◌, ℕ, ◌+◌, ◌-◌, ◌*◌, ◌/◌, ◌%◌, ◌^◌, ◌<◌, ◌≤◌, ◌==◌, ◌&&◌, ◌||◌, Bool, true, false, not, cond, List, [], ◌∷◌, ◌++◌, length, take, drop, All, refl, sym, ap, ◌∙◌, arith, append_assoc, suc}
 use Rattle.std.specs.Prelude.{unwrap_or, nat_lt, nat_le}
-use Rattle.std.specs.List.{list_all, list_any, prefix_len}
+use Rattle.std.specs.List.{list_all, list_any}
 use Rattle.std.proofs.lemmas.Bool.{false≢true}
 use Rattle.std.proofs.lemmas.Bool.Decides.{nat_tests}
 use Rattle.std.proofs.lemmas.List.{take_at, drop_at}
@@ -61,22 +61,22 @@ relocs_back size count (r ∷ rs) low few fit =
     let tail = relocs_back size count rs low few (and_right (reloc_fits size count r) (list_all (reloc_fits size count) rs) fit) in
     ap (λ x. x ∷ relocs_in (length rs) (drop 8 (rel_bytes (rel_of r) ++ relocs_bytes rs))) (reloc_back r (relocs_bytes rs) (omega arith) k (omega arith))
     ∙ ap (λ xs. r ∷ xs) (ap (relocs_in (length rs)) (behind r (relocs_bytes rs)) ∙ tail)
+
 home_back : (h : Home) → home_of (section_of h % 256 + 256 * (section_of h / 256 % 256)) ≡ h
 home_back Undefined = refl
 home_back Text = refl
 home_back Init = refl
 home_back Absolute = refl
 
+one_more : (t any : Bool) (n m : ℕ) → (not any ≡ true → n ≡ m) → not (t || any) ≡ true → cond (not t) (1 + n) 0 ≡ suc m
+one_more true any n m rest e = absurd (false≢true e)
+one_more false any n m rest e = omega (arith, rest e)
+
 -- a name without a zero byte ends before the first one
 size_of_name : (name rest : List ℕ) → not (list_any (λ b. b == 0) name) ≡ true → name_size ((name ++ 0 ∷ []) ++ rest) ≡ length name
 size_of_name [] rest e = refl
 size_of_name (b ∷ bs) rest e =
-    let step : (t : Bool) → not (t || list_any (λ b. b == 0) bs) ≡ true → cond (not t) (1 + name_size ((bs ++ 0 ∷ []) ++ rest)) 0 ≡ suc (length bs) = λ t f. other t f in
-    step (b == 0) e
-  where
-    other : (t : Bool) → not (t || list_any (λ b. b == 0) bs) ≡ true → cond (not t) (1 + name_size ((bs ++ 0 ∷ []) ++ rest)) 0 ≡ suc (length bs)
-    other true f = absurd (false≢true f)
-    other false f = omega (arith, size_of_name bs rest f)
+    one_more (b == 0) (list_any (λ b. b == 0) bs) (name_size ((bs ++ 0 ∷ []) ++ rest)) (length bs) (size_of_name bs rest) e
 
 same_symbol : (n : List ℕ) (h : Home) (v : ℕ) (s : Symbol) → n ≡ s.name → h ≡ s.home → v ≡ s.value → (let x : Symbol = record { name = n; home = h; value = v } in x) ≡ s
 same_symbol n h v s en eh ev = rw (en, eh, ev) refl

@@ -1,8 +1,8 @@
 -- The parts of an object's file stand one behind the other.
-use Rattle.std.proofs.Common.{◌≡◌, ℕ, ◌+◌, ◌*◌, ◌/◌, ◌%◌, ◌≤◌, List, [], ◌∷◌, ◌++◌, length, refl, ap, ◌∙◌, arith, append_assoc, length-append}
+use Rattle.std.proofs.Common.{◌≡◌, ℕ, ◌+◌, ◌*◌, ◌/◌, ◌%◌, ◌≤◌, List, [], ◌∷◌, ◌++◌, length, refl, arith, append_assoc, length-append}
 use Rattle.elf32.specs.Constants.{HEADER_SIZE}
 use Rattle.elf32.specs.Structures.{header_bytes, symbol_bytes}
-use Rattle.elf32.specs.Tables.{names_of, symbol_table, symbols_from, string_table, padding, aligned, padded}
+use Rattle.elf32.specs.Tables.{symbol_table, symbols_from, padding, aligned, padded}
 use Rattle.elf32.proofs.TableLaws.{aligned_least}
 use Rattle.elf_object.specs.declared.layout.Layout.{Layout}
 use Rattle.elf_object.specs.declared.object.Object.{Object}
@@ -10,7 +10,7 @@ use Rattle.elf_object.specs.declared.object.Symbol.{Symbol}
 use Rattle.elf_object.specs.declared.object.Reloc.{Reloc}
 use Rattle.elf_object.specs.Structures.{rel_bytes, rel_of, relocs_bytes, symbols_of}
 use Rattle.elf_object.specs.Layout.{layout_of, object_header, section_names, sections_bytes}
-use Rattle.elf_object.specs.File.{layout, symbols_part, strings_part, object_file, object_size}
+use Rattle.elf_object.specs.File.{symbols_part, strings_part, object_file, object_size}
 
 -- each part ends at the section headers, or before
 pub text_ends : (t i r s n : ℕ) → HEADER_SIZE + t ≤ (layout_of t i r s n).sections_at

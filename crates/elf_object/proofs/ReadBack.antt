@@ -1,5 +1,5 @@
 -- What is written reads back: the parts of an object's file say that object.
-use Rattle.std.proofs.Common.{◌≡◌, ℕ, ◌+◌, ◌-◌, ◌*◌, ◌/◌, ◌^◌, ◌<◌, ◌≤◌, List, [], ◌∷◌, ◌++◌, length, take, drop, refl, sym, subst, ap, ◌∙◌, arith}
+use Rattle.std.proofs.Common.{◌≡◌, ℕ, ◌+◌, ◌-◌, ◌*◌, ◌/◌, ◌^◌, ◌<◌, List, ◌++◌, length, drop, refl, sym, subst, ap, ◌∙◌, arith}
 use Rattle.elf32.specs.Structures.{header_bytes, section_header_bytes, symbol_bytes}
 use Rattle.elf32.specs.Tables.{names_of, symbol_table, string_table, symbols_from, strings}
 use Rattle.elf_object.specs.declared.layout.Extent.{Extent}
@@ -141,5 +141,5 @@ object_in-object_file o can words =
 
 -- where the object that the parts say isn't that of the file, no object is
 pub no_file : (bytes : List ℕ) (found : Object) → found ≡ object_in bytes → (IsFileOf bytes found → ⊥) → (o : Object) → HasWords o → IsFileOf bytes o → ⊥
-no_file bytes found e no o words is =
-    no (subst (λ x. IsFileOf bytes x) (sym (e ∙ (ap object_in is.is ∙ object_in-object_file o is.writable words))) is)
+no_file bytes found e none o words is =
+    none (subst (λ x. IsFileOf bytes x) (sym (e ∙ (ap object_in is.is ∙ object_in-object_file o is.writable words))) is)

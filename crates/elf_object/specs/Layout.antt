@@ -1,5 +1,5 @@
 -- Where the parts of an object's file stand, and what its headers say of them (System V ABI, Object Files).
-use Rattle.std.specs.Prelude.{ℕ, ◌+◌, List, [], ◌∷◌, ◌++◌, length, flat_map, codes}
+use Rattle.std.specs.Prelude.{ℕ, ◌+◌, List, [], ◌∷◌, length, flat_map, codes}
 use Rattle.elf32.specs.declared.structures.FileHeader.{FileHeader}
 use Rattle.elf32.specs.declared.structures.SectionHeader.{SectionHeader}
 use Rattle.elf32.specs.Constants.{ET_REL, HEADER_SIZE, SHT_SYMTAB, SHT_STRTAB, SYMBOL_SIZE}

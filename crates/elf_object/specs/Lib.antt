@@ -4,3 +4,4 @@ pub mod File
 pub mod Reading
 pub mod Linked
 pub mod Placed
+pub mod CanLink

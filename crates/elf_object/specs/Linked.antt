@@ -1,6 +1,6 @@
 -- Where the symbols of linked objects stand, and the text of an object with its relocations resolved (ELF for the Arm Architecture,
 -- Relocation).
-use Rattle.std.specs.Prelude.{ℕ, ◌+◌, ◌/◌, ◌%◌, ◌==◌, List, [], ◌∷◌, ◌++◌, length, take, drop, slice_index_or, bytes_eq, Option, Some, None, unwrap_or, option_map, option_and_then, slice_get, if◌then◌else◌}
+use Rattle.std.specs.Prelude.{ℕ, ◌+◌, ◌/◌, ◌%◌, ◌==◌, List, [], ◌∷◌, ◌++◌, length, take, drop, bytes_eq, Option, Some, None, unwrap_or, option_and_then, slice_get, if◌then◌else◌}
 use Rattle.std.specs.List.{fold}
 use Rattle.cm_base.specs.LittleEndian.{le32}
 use Rattle.ns_types.specs.declared.event.Veneer.{Veneer}

@@ -1,7 +1,7 @@
 -- A Secure ROM that holds linked objects, their vector table, and the veneers of their entries (DDI0553, vector table; ECM0359818,
 -- Secure gateway veneers).
-use Rattle.std.specs.Prelude.{◌≡◌, ℕ, ◌+◌, ◌-◌, ◌%◌, ◌<◌, ◌≤◌, ◌⊎◌, true, List, [], ◌∷◌, ◌++◌, length, map, flat_map, replicate, take, drop, slice_index, codes, All, Contains, IsSome, Option, Some}
-use Rattle.cm_base.specs.declared.regions.TheConstants.{SECURE_ROM, NSC}
+use Rattle.std.specs.Prelude.{◌≡◌, ℕ, ◌+◌, ◌-◌, ◌%◌, ◌<◌, ◌≤◌, true, List, [], ◌∷◌, ◌++◌, length, map, flat_map, replicate, take, drop, slice_index, codes, All, Contains, IsSome, Some}
+use Rattle.cm_base.specs.declared.regions.TheConstants.{SECURE_ROM}
 use Rattle.cm_base.specs.LittleEndian.{le32}
 use Rattle.ns_types.specs.declared.event.Veneer.{Veneer}
 use Rattle.ns_types.specs.Gateway.{is_gateway}

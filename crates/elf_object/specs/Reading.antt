@@ -1,5 +1,5 @@
 -- What the bytes of a file say of an object, and the first offset at which they aren't the file of one.
-use Rattle.std.specs.Prelude.{◌≡◌, ℕ, ◌+◌, ◌-◌, ◌*◌, ◌/◌, ◌%◌, ◌==◌, not, nat_lt, nat_le, nat_eq, zero, suc, List, [], ◌∷◌, length, take, drop, Option, Some, None, unwrap_or, Result, Ok, Err, if◌then◌else◌}
+use Rattle.std.specs.Prelude.{◌≡◌, ℕ, ◌+◌, ◌-◌, ◌*◌, ◌/◌, ◌%◌, ◌==◌, not, nat_lt, nat_le, nat_eq, zero, suc, List, [], ◌∷◌, length, take, drop, unwrap_or, Result, Ok, Err, if◌then◌else◌}
 use Rattle.std.specs.List.{fold, prefix_len, common_prefix_len}
 use Rattle.elf32.specs.Constants.{HEADER_SIZE, SECTION_HEADER_SIZE, SYMBOL_SIZE}
 use Rattle.elf32.specs.Fields.{field16, field32}

@@ -1,6 +1,6 @@
 -- Relocation entries and symbols of an object's file, and their bytes (System V ABI, Relocation, Symbol Table; ELF for the Arm
 -- Architecture, Relocation). A field has its name there.
-use Rattle.std.specs.Prelude.{ℕ, ◌+◌, ◌*◌, List, [], ◌∷◌, ◌++◌, map, flat_map}
+use Rattle.std.specs.Prelude.{ℕ, ◌+◌, ◌*◌, List, ◌++◌, map, flat_map}
 use Rattle.cm_base.specs.LittleEndian.{le32}
 use Rattle.elf32.specs.Constants.{STB_GLOBAL, STT_FUNC, SHN_UNDEF, SHN_ABS}
 use Rattle.elf32.specs.Structures.{symbol_info}

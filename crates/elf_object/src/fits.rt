@@ -23,8 +23,7 @@ fn is_kind(kind: u8) -> bool
 {
     kind == R_ARM_ABS32
         || (kind == R_ARM_THM_CALL
-            || (kind == R_ARM_THM_JUMP24
-                || (kind == R_ARM_MOVW_ABS_NC || kind == R_ARM_MOVT_ABS)))
+            || (kind == R_ARM_THM_JUMP24 || (kind == R_ARM_MOVW_ABS_NC || kind == R_ARM_MOVT_ABS)))
 }
 
 /// Whether a relocation fits a text of this size and this many symbols.

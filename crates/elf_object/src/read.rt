@@ -245,7 +245,8 @@ pub fn read_object(alloc: Global, bytes: &[u8]) -> Result<Object, ElfFault>
     ensures { Reads bytes.now result }
 {
     let object = object_in(alloc, bytes)?;
-    if is_file_of(alloc, bytes, &object)? {
+    let same = is_file_of(alloc, bytes, &object)?;
+    if same {
         return Ok(object);
     }
     Err(ElfFault::BadElf(fault_at(alloc, bytes)?))

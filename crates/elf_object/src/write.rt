@@ -113,7 +113,13 @@ pub fn write_object(alloc: Global, object: &Object) -> Result<Bytes, NoMemory>
     let relocs_size = relocs.len() as u32;
     let symbols_size = table.symbols.len() as u32;
     let strings_size = table.strings.len() as u32;
-    let layout = layout_of(text_size, init_size, relocs_size, symbols_size, strings_size);
+    let layout = layout_of(
+        text_size,
+        init_size,
+        relocs_size,
+        symbols_size,
+        strings_size,
+    );
     let mut file = Bytes::new(alloc);
     put_header(&mut file, &object_header(layout.sections_at))?;
     put_contents(&mut file, object, &relocs, &table, &layout)?;

@@ -5,4 +5,4 @@ use Rattle.elf_object.proofs.read.read_object.Goals as goal
 
 pub returns : goal.returns
 returns c =
-    (no_file c.args.bytes.now c.in_ok-object.object c.in_ok-object.ensures (λ is. false≢true (sym c.if-is_file_of.false ∙ c.in_ok-is_file_of.ensures.1 is)), c.in_ok-fault_at.ensures)
+    (no_file c.args.bytes.now c.in_ok-object.object c.in_ok-object.ensures (λ is. false≢true (sym c.if-same.false ∙ c.in_ok-same.ensures.1 is)), c.in_ok-fault_at.ensures)
