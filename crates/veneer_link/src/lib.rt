@@ -2,9 +2,9 @@
 //! gateway veneers; ELF for the Arm Architecture, Relocation).
 #![tactic(auto)]
 
-mod assign;
 mod fault;
 mod lists;
+mod placing;
 
-pub use assign::assign;
 pub use fault::LinkFault;
+pub use placing::assign;

@@ -1,5 +1,5 @@
 //! Names and veneers in lists.
-ghost use Rattle.std.specs.Prelude.{◌≡◌, ◌+◌, ◌*◌, ◌≤◌, ◌<◌, ◌^◌, ◌++◌, not, filter, IfOk, OnOk};
+ghost use Rattle.std.specs.Prelude.{◌≡◌, ◌+◌, ◌*◌, ◌≤◌, ◌<◌, ◌^◌, [], ◌∷◌, ◌++◌, not, filter, IfOk, OnOk};
 ghost use Rattle.veneer_link.specs.Assign.{is_among, has_name, is_taken, place_count, places_from, free, newcomers, placed};
 
 use cm_base::{List, NSC, NoMemory, Text};
@@ -84,6 +84,16 @@ fn place_count() -> u32
     PLACE_COUNT
 }
 
+/// Adds a place, if no old veneer stands there.
+fn add_free(free: &mut List<u32>, old: &[Veneer], at: u32) -> Result<(), NoMemory>
+    ensures { OnOk result (free.new ≡ free.old ++ filter (λ a. not (is_taken old.now a)) (at ∷ [])) }
+{
+    if is_taken(old, at) {
+        return Ok(());
+    }
+    free.push(at)
+}
+
 /// Those of n places from an address on that no old veneer stands at.
 fn free_from(alloc: Global, n: u32, from: u32, old: &[Veneer]) -> Result<List<u32>, NoMemory>
     requires { from + 8 * n < 2 ^ 32 }
@@ -92,9 +102,7 @@ fn free_from(alloc: Global, n: u32, from: u32, old: &[Veneer]) -> Result<List<u3
     let mut free = List::new(alloc);
     let mut at = from;
     for _i in 0..n {
-        if !is_taken(old, at) {
-            free.push(at)?;
-        }
+        add_free(&mut free, old, at)?;
         at += 8;
     }
     Ok(free)

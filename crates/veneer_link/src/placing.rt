@@ -12,7 +12,7 @@ use std::alloc::Global;
 
 /// The veneers of an old library, or none.
 fn old_list<'a>(old: Option<&'a Veneers>) -> &'a [Veneer]
-    ensures { result.now ≡ old_list (option_copied old) }
+    ensures { result.now ≡ old_list (option_copied old.entry) }
 {
     match old {
         None => &[],
@@ -73,6 +73,24 @@ fn assigned(alloc: Global, entries: &[Text], old: &[Veneer]) -> Result<Veneers, 
     Ok(Veneers { list })
 }
 
+/// The veneers of these entries, or the first old one that is gone or misplaced.
+fn assign_to(alloc: Global, entries: &[Text], old: &[Veneer]) -> Result<Veneers, LinkFault>
+    ensures value { Assigns entries.now old.now result }
+    ensures kept { IfOk result (λ new. All (Contains new.list) old.now) }
+{
+    if let Some(v) = first_gone(entries, old) {
+        return Err(LinkFault::Gone(v.name.try_clone(alloc)?));
+    }
+    if let Some(v) = first_misplaced(old) {
+        return Err(LinkFault::BadAddress {
+            name: v.name.try_clone(alloc)?,
+            address: v.address,
+        });
+    }
+    let veneers = assigned(alloc, entries, old)?;
+    Ok(veneers)
+}
+
 /// Where the veneers of these entries stand: the old names keep their addresses, and the others, in their order, take the lowest
 /// free places. Gone comes exactly where an old name isn't an entry, with the first such name; BadAddress exactly where all are, and
 /// an old address isn't a multiple of 8 in the Non-secure callable region or stands already at an earlier name, with the first such
@@ -85,19 +103,8 @@ pub fn assign(
     requires few { length entries.now ≤ 512 }
     requires entries_differ { AllPairs (λ a b. a ≢ b) entries.now }
     requires old_differ { AllPairs (λ v w. v.name ≢ w.name) (old_list (option_copied old)) }
-    ensures value { Assigns entries.now (old_list (option_copied old)) result }
-    ensures kept { IfOk result (λ new. All (Contains new.list) (old_list (option_copied old))) }
+    ensures value { Assigns entries.now (old_list (option_copied old.entry)) result }
+    ensures kept { IfOk result (λ new. All (Contains new.list) (old_list (option_copied old.entry))) }
 {
-    let old = old_list(old);
-    if let Some(v) = first_gone(entries, old) {
-        return Err(LinkFault::Gone(v.name.try_clone(alloc)?));
-    }
-    if let Some(v) = first_misplaced(old) {
-        return Err(LinkFault::BadAddress {
-            name: v.name.try_clone(alloc)?,
-            address: v.address,
-        });
-    }
-    let veneers = assigned(alloc, entries, old)?;
-    Ok(veneers)
+    assign_to(alloc, entries, old_list(old))
 }
