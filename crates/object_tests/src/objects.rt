@@ -64,10 +64,28 @@ fn written(rt: HostRuntime) -> Result<(), Fail> {
     let bytes = file(rt.alloc())?;
     let file = bytes.as_slice();
     assert_eq!(rt; file.len(), 460);
-    assert!(rt; has_words(file, 0, &[0x464C_457F, 0x0001_0101, 0, 0, 0x0028_0001, 1, 0, 0, 180]));
+    assert!(rt;
+        has_words(
+            file,
+            0,
+            &[0x464C_457F, 0x0001_0101, 0, 0, 0x0028_0001, 1, 0, 0, 180]
+        )
+    );
     assert!(rt; has_words(file, 36, &[0x0500_0000, 52, 0x0028_0000, 0x0006_0007]));
-    assert!(rt; has_words(file, 52, &[0xF800_F000, 0x4774, 0x0009_0807, 0, 0x0000_020A]));
-    assert!(rt; has_words(file, 72, &[0, 0, 0, 0, 1, 4, 0, 0x0001_0012, 4, 0, 0, 0x0000_0010]));
+    assert!(rt;
+        has_words(
+            file,
+            52,
+            &[0xF800_F000, 0x4774, 0x0009_0807, 0, 0x0000_020A]
+        )
+    );
+    assert!(rt;
+        has_words(
+            file,
+            72,
+            &[0, 0, 0, 0, 1, 4, 0, 0x0001_0012, 4, 0, 0, 0x0000_0010]
+        )
+    );
     assert!(rt; has_words(file, 120, &[0x006F_6700, 0x0000_0067, 0x6574_2E00]));
     assert!(rt; has_words(file, 180, &[0, 0, 0, 0, 0, 0, 0, 0, 0, 0]));
     assert!(rt; has_words(file, 220, &[1, 1, 6, 0, 52, 6, 0, 0, 4, 0]));
@@ -91,9 +109,19 @@ fn read(alloc: Global, file: &[u8]) -> Result<Object, ElfFault> {
 fn read_back(rt: HostRuntime) -> Result<(), Fail> {
     let bytes = file(rt.alloc())?;
     let object = read(rt.alloc(), bytes.as_slice())?;
-    assert_eq!(rt; object.text.as_slice(), [0x00, 0xF0, 0x00, 0xF8, 0x74, 0x47].as_slice());
+    assert_eq!(rt;
+        object.text.as_slice(),
+        [0x00, 0xF0, 0x00, 0xF8, 0x74, 0x47].as_slice()
+    );
     assert_eq!(rt; object.init.as_slice(), [7, 8, 9].as_slice());
-    assert_eq!(rt; object.relocs.get(0).copied(), Some(Reloc { at: 0, kind: 10, symbol: 1 }));
+    assert_eq!(rt;
+        object.relocs.get(0).copied(),
+        Some(Reloc {
+            at: 0,
+            kind: 10,
+            symbol: 1
+        })
+    );
     assert_eq!(rt; object.symbols.len(), 2);
     Ok(())
 }

@@ -4,8 +4,8 @@
 
 use cm_base::{Bytes, List, NoMemory, Text};
 use elf_object::{
-    Home, Object, R_ARM_ABS32, R_ARM_MOVT_ABS, R_ARM_MOVW_ABS_NC, R_ARM_THM_CALL,
-    R_ARM_THM_JUMP24, Reloc, Symbol, is_writable, write_object,
+    Home, Object, R_ARM_ABS32, R_ARM_MOVT_ABS, R_ARM_MOVW_ABS_NC, R_ARM_THM_CALL, R_ARM_THM_JUMP24,
+    Reloc, Symbol, is_writable, write_object,
 };
 use std::alloc::Global;
 use std::io;

@@ -60,11 +60,7 @@ pub fn copies(alloc: Global, veneers: &[Veneer]) -> Result<List<Veneer>, NoMemor
 }
 
 /// The entries that no old veneer has the name of.
-pub fn newcomers(
-    alloc: Global,
-    entries: &[Text],
-    old: &[Veneer],
-) -> Result<List<Text>, NoMemory>
+pub fn newcomers(alloc: Global, entries: &[Text], old: &[Veneer]) -> Result<List<Text>, NoMemory>
     ensures { IfOk result (λ names. names ≡ newcomers entries.now old.now) }
 {
     let mut names = List::new(alloc);

@@ -95,11 +95,7 @@ fn assign_to(alloc: Global, entries: &[Text], old: &[Veneer]) -> Result<Veneers,
 /// free places. Gone comes exactly where an old name isn't an entry, with the first such name; BadAddress exactly where all are, and
 /// an old address isn't a multiple of 8 in the Non-secure callable region or stands already at an earlier name, with the first such
 /// veneer.
-pub fn assign(
-    alloc: Global,
-    entries: &[Text],
-    old: Option<&Veneers>,
-) -> Result<Veneers, LinkFault>
+pub fn assign(alloc: Global, entries: &[Text], old: Option<&Veneers>) -> Result<Veneers, LinkFault>
     requires few { length entries.now ≤ 512 }
     requires entries_differ { AllPairs (λ a b. a ≢ b) entries.now }
     requires old_differ { AllPairs (λ v w. v.name ≢ w.name) (old_list (option_copied old)) }
