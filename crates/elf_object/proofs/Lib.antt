@@ -1,0 +1,4 @@
+pub mod LayoutLaws
+pub mod Parts
+pub mod Entries
+pub mod ReadBack
