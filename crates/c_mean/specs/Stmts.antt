@@ -39,13 +39,13 @@ or_nothing (Some d) = d
 
 -- an expression that may be left out, for what it does
 abbrev pub done_or : Option Expr → Does
-done_or None = goes_on
+done_or None around l w = Has flow.Next l w
 done_or (Some e) around l w = then_with (value e around l w) (λ x. leaves flow.Next around)
 
 -- a test that may be left out: it holds then (C11 6.8.5.3)
 abbrev pub test_or : Option Expr → Around → Part ℕ
 test_or None around l w = Has 1 l w
-test_or (Some e) = value e
+test_or (Some e) around l w = value e around l w
 
 -- where a test holds the rest is done, and elsewhere the loop is left
 abbrev pub while_so : (Around → Part ℕ) → Does → Does
