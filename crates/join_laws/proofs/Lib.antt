@@ -1,0 +1,12 @@
+mod Declared
+mod InRange
+mod FaultLaws
+mod JoinedLaws
+mod Keeps
+mod Kept
+mod Members
+mod ProgramLaws
+mod SeenLaws
+mod StmtKeeps
+mod TypeLaws
+mod UnitLaws
