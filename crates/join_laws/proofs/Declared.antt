@@ -1,9 +1,5 @@
 -- An extern is found by its name.
-<<<<<<< HEAD
-use Rattle.std.proofs.Common.{◌≡◌, ℕ, zero, suc, ◌+◌, ◌||◌, Bool, true, false, not, ◌&&◌, cond, nat_lt, List, [], ◌∷◌, map, length, slice_get, position, ap, sym, ◌∙◌, subst, refl, Option, None, Some, true≢false, arith, bytes_eq, ltb-false, ◌≤◌}
-=======
 use Rattle.std.proofs.Common.{◌≡◌, ℕ, zero, suc, ◌+◌, ◌||◌, Bool, true, false, not, ◌&&◌, cond, nat_lt, List, [], ◌∷◌, map, length, slice_get, ap, sym, ◌∙◌, subst, refl, None, Some, true≢false, arith, bytes_eq, ltb-false, ◌≤◌}
->>>>>>> 6db378e979821a8c720e490f40f89ca51e368682
 use Rattle.std.specs.Prelude.{option_and_then}
 use Rattle.std.specs.List.{find, list_any, position_or_len}
 use Rattle.std.proofs.lemmas.List.Folds.{find_at}

@@ -1,9 +1,5 @@
 -- What holds at each unit where a fault isn't found.
-<<<<<<< HEAD
-use Rattle.std.proofs.Common.{◌≡◌, ℕ, zero, suc, ◌+◌, ◌<◌, Bool, true, false, List, [], ◌∷◌, length, slice_get, subst, refl, Option, None, Some, arith}
-=======
 use Rattle.std.proofs.Common.{◌≡◌, ℕ, zero, suc, ◌+◌, ◌<◌, true, false, List, [], ◌∷◌, length, slice_get, subst, None, Some, arith}
->>>>>>> 6db378e979821a8c720e490f40f89ca51e368682
 use Rattle.c_tree.specs.declared.program.Extern.{Extern}
 use Rattle.c_tree.specs.Conditions.{TUnit, declared}
 use Rattle.join_laws.specs.Keys.{Key, function_keys, global_keys, numbers_of}

@@ -1,29 +1,17 @@
 -- Where each name that a tree uses is defined, its new numbers are in range.
-<<<<<<< HEAD
-use Rattle.std.proofs.Common.{◌≡◌, ℕ, suc, ◌+◌, Bool, true, false, ◌&&◌, nat_le, nat_lt, List, [], ◌∷◌, ◌++◌, map, length, ap, ap₂, sym, ◌∙◌, subst, refl, Option, None, Some}
-=======
 use Rattle.std.proofs.Common.{◌≡◌, ℕ, suc, Bool, true, false, ◌&&◌, nat_le, nat_lt, List, [], ◌∷◌, ◌++◌, map, length, ap, ap₂, sym, ◌∙◌, subst, refl, Option, None, Some}
->>>>>>> 6db378e979821a8c720e490f40f89ca51e368682
 use Rattle.std.specs.List.{flat_map, list_all}
 use Rattle.c_tree.specs.declared.expr.Expr.{Expr, roll-Expr}
 use Rattle.c_tree.specs.declared.expr.ExprKind.{ExprKind, roll-ExprKind}
 use Rattle.c_tree.specs.declared.expr.ExprKind.TheOpen.{ExprKind-F, Expr-F, Const, Local, Global, Deref, Member, Addr, Convert, Unary, Binary, PtrAdd, PtrDiff, And, Or, Cond, Assign, AssignOp, Step, Comma, Call, NsCall, Range, NsCreate, NsTest, NsCaller}
-<<<<<<< HEAD
-use Rattle.c_tree.specs.declared.expr.ExprKind.TheFolds.{map-ExprKind, map-Expr, fold-Expr, fold-ExprKind, fold-roll-ExprKind, fold-roll-Expr, ind-Expr}
-=======
 use Rattle.c_tree.specs.declared.expr.ExprKind.TheFolds.{map-ExprKind, map-Expr, fold-ExprKind, fold-roll-ExprKind, fold-roll-Expr, ind-Expr}
->>>>>>> 6db378e979821a8c720e490f40f89ca51e368682
 use Rattle.cm_base.specs.declared.place.Place.{Place}
 use Rattle.c_tree.specs.declared.stmt.Item.{Item}
 use Rattle.c_tree.specs.declared.stmt.Stmt.{Stmt, roll-Stmt}
 use Rattle.c_tree.specs.declared.stmt.Part.{Part, roll-Part}
 use Rattle.c_tree.specs.declared.stmt.Part.TheOpen as s
 use Rattle.c_tree.specs.declared.stmt.Part.TheOpen.{Stmt-F, Part-F}
-<<<<<<< HEAD
-use Rattle.c_tree.specs.declared.stmt.Part.TheFolds.{map-Stmt, map-Part, fold-Stmt, fold-Part, fold-roll-Stmt, fold-roll-Part, ind-Stmt}
-=======
 use Rattle.c_tree.specs.declared.stmt.Part.TheFolds.{map-Stmt, map-Part, fold-Part, fold-roll-Stmt, fold-roll-Part, ind-Stmt}
->>>>>>> 6db378e979821a8c720e490f40f89ca51e368682
 use Rattle.c_tree.specs.Numbers as r
 use Rattle.c_tree.specs.Numbers.{Around, Names, all_true}
 use Rattle.join_laws.specs.Renumber.{renumber, renumbered, renumbered_items, renumbered_or, renumbered_stmt}

@@ -34,24 +34,10 @@ no_name (Some x) h = cc
 
 pub joined_holds : (us : List TUnit) (p : Program) → All IsUnit us → Numbered 0 us → joined us ≡ fine p → IsProgram p
 joined_holds us p all numbered h =
-<<<<<<< HEAD
-    let entries : Checked = at_most 54 512 (length (entry_names (all_functions us))) (Ok (program us)) in
-    let bytes : Checked = at_most 52 49152 (globals_bytes (all_globals us)) entries in
-    let nodes : Checked = at_most 51 16000 (units_nodes us) bytes in
-    let found : Checked = named_or 60 (name_in (undefined_use us)) nodes in
-    let alike : Checked = named_or 62 (disputed [] us) found in
-    let a = named_fine 61 (name_in (defined_twice us)) alike p h in
-    let b = named_fine 62 (disputed [] us) found p a.1 in
-    let c = named_fine 60 (name_in (undefined_use us)) nodes p b.1 in
-    let d = most_fine 51 16000 (units_nodes us) bytes p c.1 in
-    let e = most_fine 52 49152 (globals_bytes (all_globals us)) entries p d.1 in
-    let f = most_fine 54 512 (length (entry_names (all_functions us))) (Ok (program us)) p e.1 in
-=======
     let a = named_fine 61 (name_in (defined_twice us)) _ p h in
     let b = named_fine 62 (disputed [] us) _ p a.1 in
     let c = named_fine 60 (name_in (undefined_use us)) _ p b.1 in
     let d = most_fine 51 _ (units_nodes us) _ p c.1 in
     let e = most_fine 52 _ (globals_bytes (all_globals us)) _ p d.1 in
     let f = most_fine 54 _ (length (entry_names (all_functions us))) _ p e.1 in
->>>>>>> 6db378e979821a8c720e490f40f89ca51e368682
     subst IsProgram (same (program us) p f.1) (program_holds us all numbered (no_name (defined_twice us) a.0) b.0 (no_name (undefined_use us) c.0) d.0 e.0 f.0)

@@ -1,15 +1,8 @@
 -- A function with new numbers has as many nodes and slots, and as many bytes of placed locals.
-<<<<<<< HEAD
-use Rattle.std.proofs.Common.{◌≡◌, ℕ, ◌+◌, List, [], ◌∷◌, ◌++◌, map, sum, length, max, ap, ap₂, sym, ◌∙◌, subst, refl, Option, None, Some}
-use Rattle.std.specs.List.{flat_map}
-use Rattle.c_tree.specs.declared.expr.Expr.{Expr}
-use Rattle.c_tree.specs.declared.expr.ExprKind.TheOpen.{ExprKind-F, Expr-F, Global, Call}
-=======
 use Rattle.std.proofs.Common.{◌≡◌, ℕ, ◌+◌, List, [], ◌∷◌, ◌++◌, map, sum, length, max, ap, ap₂, refl, Option, None, Some}
 use Rattle.std.specs.List.{flat_map}
 use Rattle.c_tree.specs.declared.expr.Expr.{Expr}
 use Rattle.c_tree.specs.declared.expr.ExprKind.TheOpen.{ExprKind-F, Global, Call}
->>>>>>> 6db378e979821a8c720e490f40f89ca51e368682
 use Rattle.c_tree.specs.declared.program.TFunction.{TFunction}
 use Rattle.c_tree.specs.declared.stmt.Item.{Item}
 use Rattle.c_tree.specs.declared.stmt.Stmt.{Stmt}

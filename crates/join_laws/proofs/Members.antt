@@ -1,17 +1,4 @@
 -- The functions of a program, each with the unit that defines it.
-<<<<<<< HEAD
-use Rattle.std.proofs.Common.{◌≡◌, ℕ, zero, suc, ◌+◌, ◌<◌, ◌&&◌, Bool, true, false, not, List, [], ◌∷◌, ◌++◌, map, length, slice_get, slice_index_or, All, ap, ap₂, sym, ◌∙◌, subst, refl, Option, None, Some, arith, IsTrue}
-use Rattle.std.specs.List.{flat_map, list_all}
-use Rattle.std.proofs.lemmas.List.{map-append}
-use Rattle.std.proofs.lemmas.List.Elements.{All-append, All-cons, All-head, All-map, All-nil, All-tail}
-use Rattle.c_tree.specs.declared.program.Extern.{Extern}
-use Rattle.c_tree.specs.declared.program.TFunction.{TFunction}
-use Rattle.c_tree.specs.Conditions.{IsFunction, IsUnit, TUnit, declared, function_declared}
-use Rattle.c_tree.specs.Numbers.{names_of_unit}
-use Rattle.join_laws.specs.Keys.{Key, key_of, per_unit, numbers_of}
-use Rattle.join_laws.specs.Joined.{Numbered}
-use Rattle.join_laws.specs.Uses.{Use, all_defined, functions_uses, is_defined, stmt_uses}
-=======
 use Rattle.std.proofs.Common.{◌≡◌, ℕ, suc, ◌+◌, ◌&&◌, Bool, true, false, List, [], ◌∷◌, ◌++◌, map, slice_get, All, ap, ap₂, sym, ◌∙◌, refl, Option, Some, arith, IsTrue}
 use Rattle.std.proofs.lemmas.List.{map-append}
 use Rattle.std.proofs.lemmas.List.Elements.{All-append, All-cons, All-head, All-map, All-nil, All-tail}
@@ -21,7 +8,6 @@ use Rattle.c_tree.specs.Numbers.{names_of_unit}
 use Rattle.join_laws.specs.Keys.{Key, per_unit, numbers_of}
 use Rattle.join_laws.specs.Joined.{Numbered}
 use Rattle.join_laws.specs.Uses.{all_defined, functions_uses, is_defined, stmt_uses}
->>>>>>> 6db378e979821a8c720e490f40f89ca51e368682
 use Rattle.join_laws.proofs.InRange.{all_append}
 use Rattle.join_laws.proofs.UnitLaws.{Defined}
 

@@ -1,11 +1,7 @@
 -- What no fault hinders is a program.
 use Rattle.std.proofs.Common.{◌≡◌, ◌≢◌, ◌⊎◌, inl, inr, option_and_then, option_map, ℕ, zero, suc, ◌+◌, ◌<◌, ◌≤◌, ◌==◌, ◌||◌, ◌&&◌, Bool, true, false, not, cond, nat_lt, List, [], ◌∷◌, ◌++◌, map, sum, length, slice_get, slice_index_or, All, AllPairs, ap, ap₂, sym, ◌∙◌, subst, refl, Option, None, Some, is_some, true≢false, arith, IsTrue, append_assoc, bytes_eq, ltb-true, ltb-false, lt-ltb, eq-eqb}
 use Rattle.std.specs.Prelude.{unwrap_or}
-<<<<<<< HEAD
-use Rattle.std.specs.List.{filter, list_all, list_any}
-=======
 use Rattle.std.specs.List.{list_all, list_any}
->>>>>>> 6db378e979821a8c720e490f40f89ca51e368682
 use Rattle.std.proofs.lemmas.Bool.{eqb-true}
 use Rattle.std.proofs.lemmas.Option.{slice_get-map, slice_get_cases}
 use Rattle.std.proofs.lemmas.List.{map-append, length-append}
@@ -14,28 +10,12 @@ use Rattle.std.proofs.lemmas.List.Sums.{sum_by-append}
 use Rattle.std.proofs.lemmas.List.Elements.{All-append, All-head, All-map, All-nil, All-tail}
 use Rattle.std.proofs.lemmas.List.Quantifiers.{position-Some}
 use Rattle.c_types.specs.declared.ctype.Shape.TheOpen as shape
-<<<<<<< HEAD
-use Rattle.c_types.specs.declared.same.Units.{Units}
-=======
->>>>>>> 6db378e979821a8c720e490f40f89ca51e368682
 use Rattle.c_types.specs.declared.same.Units.TheVariants.{One, Two}
 use Rattle.c_types.specs.Kind.{Look, is_function, look}
 use Rattle.c_types.specs.Sizes.{fits}
 use Rattle.c_types.specs.Same.{same_across_units, same_flag, same_type}
 use Rattle.c_tree.specs.declared.program.Extern.{Extern}
 use Rattle.c_tree.specs.declared.program.TFunction.{TFunction}
-<<<<<<< HEAD
-use Rattle.c_tree.specs.declared.program.TGlobal.{TGlobal}
-use Rattle.c_tree.specs.Conditions.{IsFunction, IsGlobal, IsProgram, IsUnit, TUnit, declared, extern_names, has_linkage, has_type, function_declared}
-use Rattle.c_tree.specs.Numbers.{Names, is_called, is_object, has_params, looks_called, names_of_program, names_of_unit, function_in_range}
-use Rattle.c_tree.specs.Nodes.{function_nodes, program_nodes}
-use Rattle.c_tree.specs.Globals as g
-use Rattle.c_tree.specs.Globals.{globals_bytes}
-use Rattle.join_laws.specs.Keys.{Key, function_keys, global_keys, is_static, key, key_of, number_of, numbers_of, per_unit, place_of_key, same_key, unit_function_keys, unit_global_keys}
-use Rattle.join_laws.specs.Joined.{Numbered, all_functions, all_globals, defined_twice, differs, disputed, entry_names, is_disputed, program, undefined_use, unit_functions, unit_globals, units_nodes}
-use Rattle.join_laws.specs.Renumber.{number_in, renumber, renumbered_function}
-use Rattle.join_laws.specs.Uses.{is_defined, stmt_uses}
-=======
 use Rattle.c_tree.specs.Conditions.{IsFunction, IsGlobal, IsProgram, IsUnit, TUnit, declared, has_linkage, has_type, function_declared}
 use Rattle.c_tree.specs.Numbers.{is_called, is_object, has_params, looks_called, names_of_program, names_of_unit}
 use Rattle.c_tree.specs.Nodes.{function_nodes, program_nodes}
@@ -45,7 +25,6 @@ use Rattle.join_laws.specs.Keys.{Key, function_keys, global_keys, is_static, key
 use Rattle.join_laws.specs.Joined.{Numbered, all_functions, all_globals, defined_twice, differs, disputed, entry_names, is_disputed, program, undefined_use, unit_functions, unit_globals, units_nodes}
 use Rattle.join_laws.specs.Renumber.{number_in, renumber, renumbered_function}
 use Rattle.join_laws.specs.Uses.{is_defined}
->>>>>>> 6db378e979821a8c720e490f40f89ca51e368682
 use Rattle.join_laws.proofs.Declared.{declared_at, declared_itself, name_same, names_equal}
 use Rattle.join_laws.proofs.InRange.{in_range_after}
 use Rattle.join_laws.proofs.Kept.{function_nodes_kept, placed_kept, slots_kept}

@@ -1,9 +1,5 @@
 -- Who is seen: in order, each once.
-<<<<<<< HEAD
-use Rattle.std.proofs.Common.{◌≡◌, ℕ, ◌+◌, ◌<◌, Bool, true, false, ◌||◌, cond, nat_lt, List, [], ◌∷◌, ◌++◌, map, length, slice_index_or, AllPairs, ap, sym, ◌∙◌, subst, refl, Option, None, Some, is_some, arith, append_assoc, true≢false, ltb-false, ◌≤◌}
-=======
 use Rattle.std.proofs.Common.{◌≡◌, ℕ, ◌+◌, ◌<◌, Bool, true, false, ◌||◌, cond, nat_lt, List, [], ◌∷◌, ◌++◌, length, slice_index_or, ap, sym, ◌∙◌, subst, refl, Option, None, Some, is_some, arith, append_assoc, true≢false, ltb-false, ◌≤◌}
->>>>>>> 6db378e979821a8c720e490f40f89ca51e368682
 use Rattle.std.specs.List.{position_or_len}
 use Rattle.std.proofs.lemmas.List.{append-nil}
 use Rattle.std.proofs.lemmas.List.Sums.{fails_before_first}

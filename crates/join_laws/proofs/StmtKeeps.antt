@@ -1,10 +1,5 @@
 -- The same of statements and of functions.
-<<<<<<< HEAD
-use Rattle.std.proofs.Common.{◌≡◌, ℕ, ◌+◌, List, [], ◌∷◌, map, ap, ap₂, sym, ◌∙◌, subst, refl, Option, None, Some}
-use Rattle.c_tree.specs.declared.expr.Expr.{Expr}
-=======
 use Rattle.std.proofs.Common.{◌≡◌, ℕ, List, [], ◌∷◌, map, ap, ap₂, sym, ◌∙◌, subst, refl, Option, None, Some}
->>>>>>> 6db378e979821a8c720e490f40f89ca51e368682
 use Rattle.c_tree.specs.declared.stmt.Stmt.{Stmt, roll-Stmt}
 use Rattle.c_tree.specs.declared.stmt.Part.{Part, roll-Part}
 use Rattle.c_tree.specs.declared.stmt.Stmt.TheVariants as stmt

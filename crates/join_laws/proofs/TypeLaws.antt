@@ -1,19 +1,11 @@
 -- Types that are one have as many parameters.
-<<<<<<< HEAD
-use Rattle.std.proofs.Common.{◌≡◌, ℕ, suc, ◌+◌, ◌==◌, Bool, true, false, ◌&&◌, eqb, List, [], ◌∷◌, map, length, ap, sym, ◌∙◌, subst, refl, true≢false, rules}
-=======
 use Rattle.std.proofs.Common.{◌≡◌, ℕ, suc, ◌==◌, Bool, true, false, ◌&&◌, eqb, List, [], ◌∷◌, map, length, ap, sym, ◌∙◌, subst, refl, true≢false, rules}
->>>>>>> 6db378e979821a8c720e490f40f89ca51e368682
 use Rattle.std.proofs.lemmas.Bool.{eqb-true}
 use Rattle.c_types.specs.declared.ctype.CType.{CType}
 use Rattle.c_types.specs.declared.ctype.Shape.{Shape, out-Shape}
 use Rattle.c_types.specs.declared.ctype.Shape.TheOpen as shape
 use Rattle.c_types.specs.declared.ctype.Shape.TheOpen.{Shape-F, CType-F}
-<<<<<<< HEAD
-use Rattle.c_types.specs.declared.ctype.Shape.TheFolds.{map-Shape, map-CType, fold-CType, fold-Shape, fold_out-Shape, fold_out-CType, the_lemmas}
-=======
 use Rattle.c_types.specs.declared.ctype.Shape.TheFolds.{map-Shape, fold_out-Shape, the_lemmas}
->>>>>>> 6db378e979821a8c720e490f40f89ca51e368682
 use Rattle.c_types.specs.declared.same.Units.{Units}
 use Rattle.c_types.specs.declared.same.Units.TheVariants.{One, Two}
 use Rattle.c_types.specs.Kind.{Look, look, looks_function, is_function}

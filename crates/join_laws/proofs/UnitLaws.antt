@@ -1,19 +1,4 @@
 -- What follows where no fault is found.
-<<<<<<< HEAD
-use Rattle.std.proofs.Common.{◌≡◌, ℕ, ◌+◌, ◌<◌, ◌||◌, Bool, true, false, not, ◌&&◌, cond, nat_lt, List, [], ◌∷◌, ◌++◌, map, length, slice_get, position, ap, ap₂, sym, ◌∙◌, subst, refl, Option, None, Some, is_some, true≢false, arith, bytes_eq, IsTrue}
-use Rattle.std.specs.Prelude.{option_and_then}
-use Rattle.std.specs.List.{find, flat_map, fold, list_all, list_any, position_or_len}
-use Rattle.std.specs.Option.{option_or}
-use Rattle.std.proofs.lemmas.List.Folds.{find_at}
-use Rattle.cm_base.specs.declared.place.Place.{Place}
-use Rattle.c_tree.specs.declared.program.Extern.{Extern}
-use Rattle.c_tree.specs.declared.program.TFunction.{TFunction}
-use Rattle.c_tree.specs.Conditions.{TUnit, declared}
-use Rattle.join_laws.specs.Keys.{Key, numbers_of}
-use Rattle.join_laws.specs.Joined.{disputed, differs, first_disputed, is_disputed, undefined_from}
-use Rattle.join_laws.specs.Uses.{Named, Use, all_defined, earlier, functions_uses, is_before, is_defined, note, noted, stmt_uses}
-use Rattle.join_laws.proofs.InRange.{all_append}
-=======
 use Rattle.std.proofs.Common.{◌≡◌, ℕ, ◌+◌, Bool, true, false, not, ◌&&◌, cond, List, [], ◌∷◌, ◌++◌, ap₂, sym, refl, Option, None, Some, true≢false}
 use Rattle.std.specs.List.{list_all}
 use Rattle.std.specs.Option.{option_or}
@@ -22,7 +7,6 @@ use Rattle.c_tree.specs.Conditions.{TUnit}
 use Rattle.join_laws.specs.Keys.{Key, numbers_of}
 use Rattle.join_laws.specs.Joined.{disputed, first_disputed, is_disputed, undefined_from}
 use Rattle.join_laws.specs.Uses.{Named, Use, all_defined, earlier, functions_uses, is_before, is_defined, note, noted}
->>>>>>> 6db378e979821a8c720e490f40f89ca51e368682
 
 -- ---- uses
 
