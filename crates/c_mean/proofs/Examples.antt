@@ -155,7 +155,7 @@ by_default = refl
 abbrev total : TFunction
 total = entry (codes "total") (named unsigned ∷ []) (named unsigned ∷ named unsigned ∷ []) (s.Block (
     s.For (s.Expr (word (k.Assign (local 1) (number 0))) ∷ []) (Some (word (k.Binary bin.Lt (local 1) (local 0)))) (Some (word (k.Step (local 1) 1 true)))
-      (s.Block (s.If (word (k.Binary bin.Eq (local 1) (number 1))) s.Continue None ∷ s.Expr (word (k.AssignOp bin.Add (local 2) (local 1))) ∷ []))
+    (s.Block (s.If (word (k.Binary bin.Eq (local 1) (number 1))) s.Continue None ∷ s.Expr (word (k.AssignOp bin.Add (local 2) (local 1))) ∷ []))
     ∷ s.Return (Some (local 2)) ∷ []))
 
 totals : called_with (total ∷ []) 4 (3 ∷ 0 ∷ 0 ∷ 0 ∷ []) ≡ Gave 2 (reach 148 world)

@@ -305,8 +305,7 @@ module _ (fixed : Fixed) (a b : Calls) (below : Below a b) where
   sense_law = ind-Expr KindLaw (λ e. SenseLaw (sense e))
       (λ x y is. subst (λ z. KindLaw (roll-ExprKind z)) is (kind_law y))
       (λ x y is. subst (λ z. SenseLaw (sense (roll-Expr z))) is (expr_law y))
-
-    -- ---- statements
+      -- ---- statements
 
   abbrev GoodPart : Type 0
   GoodPart = (x : SwitchPart) × Lawful ((arm x).does)
@@ -456,10 +455,10 @@ module _ (p : Program) (enters : ℕ → Option ℕ) (low high : Caller) (below 
       pair_cond false =
           let top = block + block_bytes f in
           let r = pair_closing u _ _
-                (runs_law (record { block = block; offsets = (block_of f).offsets; globals = homes p.globals; from_ns = from_ns; returned = result f })
-                (record { call = λ n. low false load top (slice_get p.functions n); ns_call = called_out (entered p enters t (low true load top)); turns = t })
-                (record { call = λ n. high false load top (slice_get p.functions n); ns_call = called_out (entered p enters t' (high true load top)); turns = t' })
-                (record { call = λ n. below false load top (slice_get p.functions n); ns_call = ns_below load top; turns = le }) f (first_values f args) u) in
+          (runs_law (record { block = block; offsets = (block_of f).offsets; globals = homes p.globals; from_ns = from_ns; returned = result f })
+          (record { call = λ n. low false load top (slice_get p.functions n); ns_call = called_out (entered p enters t (low true load top)); turns = t })
+          (record { call = λ n. high false load top (slice_get p.functions n); ns_call = called_out (entered p enters t' (high true load top)); turns = t' })
+          (record { call = λ n. below false load top (slice_get p.functions n); ns_call = ns_below load top; turns = le }) f (first_values f args) u) in
           record { own = record { front = r.own.front }; adds = record { front = r.adds.front }; more = r.more }
 
   function_below : (from_ns : Bool) (load block : ℕ) (f : Option TFunction) (args : List ℕ) (w : World)

@@ -26,14 +26,14 @@ use Rattle.c_mean.specs.Values.{Spot, At, converted, spot_in, moved, address, re
 
 -- What stands around the body of a function that is active.
 pub record Around : Type 0 where
-  pub block : ℕ                                   -- the address of its block
-  pub offsets : List (Option ℕ)                   -- where each placed parameter and local stands in it
-  pub globals : List ℕ                            -- where each global stands
-  pub call : ℕ → List ℕ → World → Outcome         -- what a call of a function does, by its number
-  pub ns_call : ℕ → List ℕ → World → Outcome      -- what a call of a Non-secure function does, by its address
-  pub from_ns : Bool                              -- whether Non-secure code called it
-  pub turns : ℕ                                   -- how many turns each loop may take
-  pub returned : ℕ → ℕ                            -- what `return` makes of a value
+  pub block : ℕ  -- the address of its block
+  pub offsets : List (Option ℕ)  -- where each placed parameter and local stands in it
+  pub globals : List ℕ  -- where each global stands
+  pub call : ℕ → List ℕ → World → Outcome  -- what a call of a function does, by its number
+  pub ns_call : ℕ → List ℕ → World → Outcome  -- what a call of a Non-secure function does, by its address
+  pub from_ns : Bool  -- whether Non-secure code called it
+  pub turns : ℕ  -- how many turns each loop may take
+  pub returned : ℕ → ℕ  -- what `return` makes of a value
 
 -- where an expression is a place, its spot; and its value
 pub record Meant : Type 0 where
