@@ -10,12 +10,12 @@ use Rattle.mid_ir.specs.Numbers.{Around, has_params, in_range, function_in_range
 use Rattle.mid_ir.specs.Conditions.{IsFunction}
 use Rattle.mid_ir.proofs.RangeLaws.{range_Seq, range_Call, range_Set, range_Return}
 
--- static int f(unsigned short x, int y) { return f(x, y) % y; }, in unit 2
+-- int f(unsigned short x, int y) { return f(x, y) % y; }, in unit 2
 abbrev body : List MidStmt
 body = mid.Call 0 0 (0 ∷ 1 ∷ []) ∷ mid.Set 0 op.RemS 0 1 ∷ mid.Return 0 ∷ []
 
 abbrev f : MidFn
-f = record { name = codes "f.2"; unit = 2; entry = false; gives = true; narrow = 4 ∷ 0 ∷ []; vars = 2; block = 8; body = mid.Seq body }
+f = record { name = codes "f"; unit = 2; entry = false; gives = true; narrow = 4 ∷ 0 ∷ []; vars = 2; block = 8; body = mid.Seq body }
 
 abbrev around : Around
 around = record { is_function = λ n many. has_params many (slice_get (f ∷ []) n); vars = 2; block = 8; entry = false }
