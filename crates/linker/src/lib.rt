@@ -1,5 +1,4 @@
-//! The linker: a Secure ROM of objects, with their symbols, relocations, vector table and veneers (ELF for the Arm Architecture,
-//! Relocation; ECM0359818, Secure gateway veneers).
+//! The passes of the linker; so far how one relocation of a text is resolved (ELF for the Arm Architecture, Relocation).
 #![tactic(auto)]
 
 mod relocation;

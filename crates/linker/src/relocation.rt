@@ -7,9 +7,7 @@ ghost use Rattle.v8m_isa.specs.Bytes.{instr_bytes};
 ghost use Rattle.elf_object.specs.Linked.{register_of, register_at, resolved};
 ghost use Rattle.linker.specs.Resolve.{Reaches, with_place};
 
-use elf_object::{
-    R_ARM_ABS32, R_ARM_MOVW_ABS_NC, R_ARM_THM_CALL, R_ARM_THM_JUMP24, Reloc,
-};
+use elf_object::{R_ARM_ABS32, R_ARM_MOVW_ABS_NC, R_ARM_THM_CALL, R_ARM_THM_JUMP24, Reloc};
 use v8m_isa::{Instr, decode, encode};
 
 /// The halfword at a place of a text.
