@@ -5,6 +5,7 @@ use v8m_isa::Instr;
 // The bytes are those that GNU as makes of the same lines; GNU objdump reads them back with these targets: from 4 to 16, from 10
 // to 0, from 20 to 0, from 24 to 16, and from 28 to 32.
 #[test]
+#[tactic(auto, unfolding(v8m_isa::specs::Table::in_range_of, v8m_isa::specs::Table::size_of))]
 fn labels_ahead_and_back(rt: HostRuntime) -> Result<(), NoMemory> {
     let asm = [
         Asm::Label(7),

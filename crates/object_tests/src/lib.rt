@@ -2,4 +2,6 @@
 #![tactic(auto)]
 
 #[cfg(test)]
+mod libraries;
+#[cfg(test)]
 mod objects;

@@ -1,0 +1,12 @@
+pub mod Declared
+pub mod FaultLaws
+pub mod InRange
+pub mod JoinedLaws
+pub mod Keeps
+pub mod Kept
+pub mod Members
+pub mod ProgramLaws
+pub mod SeenLaws
+pub mod StmtKeeps
+pub mod TypeLaws
+pub mod UnitLaws

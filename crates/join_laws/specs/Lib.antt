@@ -1,0 +1,4 @@
+pub mod Keys
+pub mod Renumber
+pub mod Uses
+pub mod Joined
