@@ -87,7 +87,8 @@ pub fn resolve(text: &mut [u8], text_at: u32, r: &Reloc, place: u32)
     requires fits { r.now.at + 4 ≤ length text.old }
     requires low { text_at + length text.old < 2 ^ 32 }
     requires reach { Reaches r.now.kind (text_at + r.now.at) place }
-    ensures { text.new ≡ with_place text_at text.old r.now place }
+    ensures is { text.new ≡ with_place text_at text.old r.now place }
+    ensures size { length text.new ≡ length text.old }
 {
     let at = r.at as usize;
     let register = register_at(text, at);
