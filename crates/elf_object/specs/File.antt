@@ -41,7 +41,7 @@ object_file o =
 abbrev pub object_size : Object → ℕ
 object_size o = (layout o).sections_at + 7 * SECTION_HEADER_SIZE
 
--- whether this is a kind of relocation: R_ARM_ABS32, R_ARM_THM_CALL, R_ARM_THM_JUMP24, R_ARM_MOVW_ABS_NC or R_ARM_MOVT_ABS
+-- whether this is a kind of relocation: R_ARM_ABS32, R_ARM_THM_CALL, R_ARM_THM_JUMP24, R_ARM_THM_MOVW_ABS_NC or R_ARM_THM_MOVT_ABS
 abbrev pub is_kind : ℕ → Bool
 is_kind k = k == 2 || (k == 10 || (k == 30 || (k == 47 || k == 48)))
 

@@ -33,10 +33,10 @@ pub const R_ARM_THM_CALL: u8 = 10;
 pub const R_ARM_THM_JUMP24: u8 = 30;
 
 /// The number of the MOVW is the lower half of the symbol's place.
-pub const R_ARM_MOVW_ABS_NC: u8 = 47;
+pub const R_ARM_THM_MOVW_ABS_NC: u8 = 47;
 
 /// The number of the MOVT is the upper half of the symbol's place.
-pub const R_ARM_MOVT_ABS: u8 = 48;
+pub const R_ARM_THM_MOVT_ABS: u8 = 48;
 
 /// A relocation entry without an addend.
 #[derive(Clone, Copy)]

@@ -6,7 +6,7 @@ ghost use Rattle.elf_object.specs.Structures.{symbols_of};
 ghost use Rattle.elf_object.specs.File.{is_kind, reloc_fits, name_fits, CanWrite, object_size};
 
 use crate::elf::{
-    R_ARM_ABS32, R_ARM_MOVT_ABS, R_ARM_MOVW_ABS_NC, R_ARM_THM_CALL, R_ARM_THM_JUMP24,
+    R_ARM_ABS32, R_ARM_THM_CALL, R_ARM_THM_JUMP24, R_ARM_THM_MOVT_ABS, R_ARM_THM_MOVW_ABS_NC,
 };
 use crate::object::{Object, Reloc, Symbol};
 
@@ -23,7 +23,8 @@ fn is_kind(kind: u8) -> bool
 {
     kind == R_ARM_ABS32
         || (kind == R_ARM_THM_CALL
-            || (kind == R_ARM_THM_JUMP24 || (kind == R_ARM_MOVW_ABS_NC || kind == R_ARM_MOVT_ABS)))
+            || (kind == R_ARM_THM_JUMP24
+                || (kind == R_ARM_THM_MOVW_ABS_NC || kind == R_ARM_THM_MOVT_ABS)))
 }
 
 /// Whether a relocation fits a text of this size and this many symbols.

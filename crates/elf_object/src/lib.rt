@@ -10,7 +10,7 @@ mod read;
 mod write;
 
 pub use elf::{
-    R_ARM_ABS32, R_ARM_MOVT_ABS, R_ARM_MOVW_ABS_NC, R_ARM_THM_CALL, R_ARM_THM_JUMP24, Rel,
+    R_ARM_ABS32, R_ARM_THM_CALL, R_ARM_THM_JUMP24, R_ARM_THM_MOVT_ABS, R_ARM_THM_MOVW_ABS_NC, Rel,
 };
 pub use fits::is_writable;
 pub use layout::{Extent, Layout};

@@ -7,7 +7,7 @@ ghost use Rattle.v8m_isa.specs.Bytes.{instr_bytes};
 ghost use Rattle.elf_object.specs.Linked.{register_of, register_at, resolved};
 ghost use Rattle.linker.specs.Resolve.{Reaches, with_place};
 
-use elf_object::{R_ARM_ABS32, R_ARM_MOVW_ABS_NC, R_ARM_THM_CALL, R_ARM_THM_JUMP24, Reloc};
+use elf_object::{R_ARM_ABS32, R_ARM_THM_CALL, R_ARM_THM_JUMP24, R_ARM_THM_MOVW_ABS_NC, Reloc};
 use v8m_isa::{Instr, decode, encode};
 
 /// The halfword at a place of a text.
@@ -71,7 +71,7 @@ fn resolved(kind: u8, at: u32, place: u32, register: u32) -> u32
     } else if kind == R_ARM_THM_JUMP24 {
         let off = place.wrapping_sub(at + 4);
         word_of(&Instr::B { off })
-    } else if kind == R_ARM_MOVW_ABS_NC {
+    } else if kind == R_ARM_THM_MOVW_ABS_NC {
         let i = place % 0x1_0000;
         word_of(&Instr::Movw { d: register, i })
     } else {

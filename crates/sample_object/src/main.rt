@@ -4,8 +4,8 @@
 
 use cm_base::{Bytes, List, NoMemory, Text};
 use elf_object::{
-    Home, Object, R_ARM_ABS32, R_ARM_MOVT_ABS, R_ARM_MOVW_ABS_NC, R_ARM_THM_CALL, R_ARM_THM_JUMP24,
-    Reloc, Symbol, is_writable, write_object,
+    Home, Object, R_ARM_ABS32, R_ARM_THM_CALL, R_ARM_THM_JUMP24, R_ARM_THM_MOVT_ABS,
+    R_ARM_THM_MOVW_ABS_NC, Reloc, Symbol, is_writable, write_object,
 };
 use std::alloc::Global;
 use std::io;
@@ -37,8 +37,8 @@ fn relocs(alloc: Global) -> Result<List<Reloc>, NoMemory> {
     let all = [
         (0, R_ARM_THM_CALL, 1),
         (4, R_ARM_THM_JUMP24, 1),
-        (8, R_ARM_MOVW_ABS_NC, 2),
-        (12, R_ARM_MOVT_ABS, 2),
+        (8, R_ARM_THM_MOVW_ABS_NC, 2),
+        (12, R_ARM_THM_MOVT_ABS, 2),
         (16, R_ARM_ABS32, 3),
     ];
     let mut list = List::new(alloc);
