@@ -1,0 +1,11 @@
+//! Which variables of a function of the middle form are live at each of its points, and whether places for them clash.
+#![tactic(auto)]
+
+// mod clash;
+mod lives;
+mod places;
+mod sets;
+
+// pub use clash::clash;
+pub use lives::{Lives, Point, live_sets};
+pub use places::{Places, Where};
