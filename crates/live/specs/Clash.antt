@@ -1,5 +1,5 @@
 -- Clashes: two variables that are live at one point and share a place.
-use Rattle.std.specs.Prelude.{ℕ, ◌×◌, ◌,◌, eqb, ltb, ◌&&◌, ◌||◌, Bool, false, cond, List, [], ◌∷◌, slice_get, Option, Some, None}
+use Rattle.std.specs.Prelude.{ℕ, eqb, ltb, ◌&&◌, ◌||◌, Bool, false, cond, List, [], ◌∷◌, slice_get, Option, Some, None}
 use Rattle.live.specs.declared.lives.Point.{Point}
 use Rattle.live.specs.declared.places.Where.{Where}
 use Rattle.live.specs.declared.places.Where.TheVariants.{Register, Frame}

@@ -1,3 +1,4 @@
 pub mod Sets
 pub mod Live
-
+pub mod Clash
+pub mod Apart

@@ -1,11 +1,12 @@
 //! Which variables of a function of the middle form are live at each of its points, and whether places for them clash.
 #![tactic(auto)]
 
-// mod clash;
+mod clashes;
+pub mod laws;
 mod lives;
 mod places;
 mod sets;
 
-// pub use clash::clash;
+pub use clashes::clash;
 pub use lives::{Lives, Point, live_sets};
 pub use places::{Places, Where};

@@ -1,6 +1,6 @@
 use Rattle.std.proofs.Common.{◌≡◌, drop}
 use Rattle.live.specs.Clash as spec
-use Rattle.live.proofs.clash.least_from.Given as goal
+use Rattle.live.proofs.clashes.least_from.Given as goal
 
 abbrev pub invariant-loop-p : goal.invariant-loop-p
 invariant-loop-p l = spec.least_from l.places l.found l.points ≡ spec.least_from l.places l.least (drop l.p-index l.points)
