@@ -255,7 +255,7 @@ fn one_in(
 
 /// The same of statements one after the other.
 #[cycle(points)]
-#[tactic(auto, using(crate::proofs::Orders::both_ways))]
+#[tactic(auto, using(crate::proofs::Orders::back_all_is))]
 fn inner_all(
     alloc: Global,
     list: &[MidStmt],
