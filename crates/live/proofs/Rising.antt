@@ -1,5 +1,5 @@
 -- The variables at a point ascend, so places that differ don't clash.
-use Rattle.std.proofs.Common.{◌≡◌, ℕ, suc, ◌<◌, ◌≤◌, Bool, true, false, cond, List, [], ◌∷◌, ◌++◌, map, Option, Some, None, refl, sym, ap, subst, ◌∙◌, arith}
+use Rattle.std.proofs.Common.{◌≡◌, ℕ, suc, ◌<◌, ◌≤◌, Bool, true, false, cond, List, [], ◌∷◌, ◌++◌, length, map, Option, Some, None, refl, sym, ap, subst, ◌∙◌, arith}
 use Rattle.mid_ir.specs.declared.stmt.MidStmt.{MidStmt, roll-MidStmt}
 use Rattle.mid_ir.specs.declared.stmt.MidStmt.TheOpen.{MidStmt-F, Seq, Const, Set as SetVar, Home, Load, Store, Call, NsCall, Range, Caller, If, Loop, Block, Break, Return}
 use Rattle.mid_ir.specs.declared.stmt.MidStmt.TheFolds.{map-MidStmt, fold-roll-MidStmt, ind-MidStmt}
@@ -98,7 +98,7 @@ inner_rise : (s : MidStmt) → Good s
 inner_rise = ind-MidStmt Good (λ x y is. subst (λ z. Good (roll-MidStmt z)) is (law y))
 
 pub lives_rise : (f : MidFn) → AllRise (lives f)
-lives_rise f = ((members_rise 0 _ , members_rise 0 _) , inner_rise f.body (at_end f) [])
+lives_rise f = ((members_rise 0 (with_first (length f.narrow) (live_before f.body (at_end f) [])) , members_rise 0 (with_set (at_end f) (sets f.body))) , inner_rise f.body (at_end f) [])
 
 pub no_clash : (f : MidFn) (places : List Where) → Apart places → clash places (lives f) ≡ None
 no_clash f places a = least_none places a (lives f) (lives_rise f)
