@@ -1,6 +1,6 @@
 //! A place for each variable of a function.
 #![tactic(auto)]
 
-mod allocate;
+mod frame;
 
-pub use allocate::allocate;
+pub use frame::allocate;

@@ -4,7 +4,7 @@ use Rattle.live.specs.declared.places.Where.{Where}
 use Rattle.live.specs.declared.places.Where.TheVariants.{Frame}
 use Rattle.live.specs.Apart.{Apart}
 use Rattle.live.specs.Clash.{share, shares}
-use Rattle.regalloc.specs.Frame.{frame_size, words}
+use Rattle.regalloc.specs.Words.{frame_size, words}
 
 pub one_more : (n k : ℕ) → words n k ++ Frame (n + k) ∷ [] ≡ words n (suc k)
 one_more n zero = ap (λ m. Frame m ∷ []) (omega arith)
