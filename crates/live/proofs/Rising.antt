@@ -1,5 +1,5 @@
 -- The variables at a point ascend, so places that differ don't clash.
-use Rattle.std.proofs.Common.{◌≡◌, ℕ, suc, ◌<◌, ◌≤◌, Bool, true, false, cond, List, [], ◌∷◌, ◌++◌, length, map, Option, Some, None, refl, sym, ap, subst, ◌∙◌, arith}
+use Rattle.std.proofs.Common.{◌≡◌, ℕ, suc, ◌<◌, ◌≤◌, true, false, cond, List, [], ◌∷◌, ◌++◌, length, map, Some, None, refl, sym, ap, subst, ◌∙◌, arith}
 use Rattle.mid_ir.specs.declared.stmt.MidStmt.{MidStmt, roll-MidStmt}
 use Rattle.mid_ir.specs.declared.stmt.MidStmt.TheOpen.{MidStmt-F, Seq, Const, Set as SetVar, Home, Load, Store, Call, NsCall, Range, Caller, If, Loop, Block, Break, Return}
 use Rattle.mid_ir.specs.declared.stmt.MidStmt.TheFolds.{map-MidStmt, fold-roll-MidStmt, ind-MidStmt}
@@ -8,8 +8,8 @@ use Rattle.mid_ir.specs.Uses.{sets}
 use Rattle.live.specs.declared.lives.Point.{Point}
 use Rattle.live.specs.declared.places.Where.{Where}
 use Rattle.live.specs.Sets.{Set, members_from, nothing, with_first, with_set}
-use Rattle.live.specs.Live.{Walk, at_end, before_all, inner, inner_step, live_before, lives, points, points_all, points_of, walk, walk_step}
-use Rattle.live.specs.Clash.{clash, first_sharing, least_from, lesser, pair_in, pair_or, shares}
+use Rattle.live.specs.Live.{Walk, at_end, before_all, inner, inner_step, live_before, lives, points_all, points_of, walk, walk_step}
+use Rattle.live.specs.Clash.{clash, first_sharing, least_from, lesser, pair_in, pair_or}
 use Rattle.live.specs.Apart.{Apart}
 
 -- numbers that ascend from n on

@@ -1,9 +1,9 @@
 -- Live variables. A variable is live at a point where some path from the point reads it before setting it, and directly
 -- after a statement that sets it. Paths go backwards here: what is live before a statement is told from what is live after
 -- it, and where the loops and blocks around it are left.
-use Rattle.std.specs.Prelude.{ℕ, ◌-◌, Bool, false, cond, ltb, List, [], ◌∷◌, ◌++◌, length, replicate, slice_get, Option, Some, None}
+use Rattle.std.specs.Prelude.{ℕ, ◌-◌, false, cond, ltb, List, [], ◌∷◌, ◌++◌, length, replicate, slice_get, Option, Some, None}
 use Rattle.mid_ir.specs.declared.stmt.MidStmt.{MidStmt}
-use Rattle.mid_ir.specs.declared.stmt.MidStmt.TheOpen.{MidStmt-F, Seq, Const, Set as SetVar, Home, Load, Store, Call, NsCall, Range, Caller, If, Loop, Block, Break, Return}
+use Rattle.mid_ir.specs.declared.stmt.MidStmt.TheOpen.{MidStmt-F, Seq, If, Loop, Block, Break, Return}
 use Rattle.mid_ir.specs.declared.stmt.MidStmt.TheFolds.{fold-MidStmt}
 use Rattle.mid_ir.specs.declared.program.MidFn.{MidFn}
 use Rattle.mid_ir.specs.Uses.{reads_in, sets, sets_in}

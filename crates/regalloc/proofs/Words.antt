@@ -1,5 +1,5 @@
 -- Words of a frame are places of their own.
-use Rattle.std.proofs.Common.{◌≡◌, ℕ, zero, suc, ◌+◌, ◌<◌, ◌≤◌, max, Bool, true, false, eqb, List, [], ◌∷◌, ◌++◌, Option, Some, None, length, slice_get, refl, sym, ap, ◌∙◌, arith}
+use Rattle.std.proofs.Common.{◌≡◌, ℕ, zero, suc, ◌+◌, ◌<◌, ◌≤◌, max, false, eqb, [], ◌∷◌, ◌++◌, Option, Some, None, length, slice_get, refl, ap, ◌∙◌, arith}
 use Rattle.live.specs.declared.places.Where.{Where}
 use Rattle.live.specs.declared.places.Where.TheVariants.{Frame}
 use Rattle.live.specs.Apart.{Apart}
@@ -9,6 +9,9 @@ use Rattle.regalloc.specs.Words.{frame_size, words}
 pub one_more : (n k : ℕ) → words n k ++ Frame (n + k) ∷ [] ≡ words n (suc k)
 one_more n zero = ap (λ m. Frame m ∷ []) (omega arith)
 one_more n (suc k) = ap (λ m. Frame n ∷ (words (suc n) k ++ Frame m ∷ [])) (omega arith) ∙ ap (λ ps. Frame n ∷ ps) (one_more (suc n) k)
+
+pub next_word : (k : ℕ) → words 0 k ++ Frame k ∷ [] ≡ words 0 (suc k)
+next_word k = ap (λ m. words 0 k ++ Frame m ∷ []) (omega arith) ∙ one_more 0 k
 
 pub as_many : (n k : ℕ) → length (words n k) ≡ k
 as_many n zero = refl
@@ -22,7 +25,7 @@ frame_size_of n zero = omega arith
 frame_size_of n (suc k) = let h = frame_size_of (suc n) k in most (suc n) (frame_size (words (suc n) k)) (n + suc k) (omega arith) (omega arith)
 
 pub frame_size_all : (k : ℕ) → frame_size (words 0 k) ≤ k
-frame_size_all k = frame_size_of 0 k
+frame_size_all k = let h = frame_size_of 0 k in omega (arith, h)
 
 -- what stands at a number: that word, or nothing
 data At (n : ℕ) (i : ℕ) (p : Option Where) : Type 0 where
@@ -45,4 +48,4 @@ words_apart k v w lt = of (at 0 k v) (at 0 k w) where
   of : At 0 v (slice_get (words 0 k) v) → At 0 w (slice_get (words 0 k) w) → shares (words 0 k) v w ≡ false
   of (Beyond h) y = ap (λ p. share p (slice_get (words 0 k) w)) h
   of (Here h) (Beyond g) = ap (λ p. share (slice_get (words 0 k) v) p) g ∙ ap (λ p. share p None) h
-  of (Here h) (Here g) = ap (λ p. share p (slice_get (words 0 k) w)) h ∙ ap (λ p. share (Some (Frame v)) p) g ∙ differ v w lt
+  of (Here h) (Here g) = ap (λ p. share p (slice_get (words 0 k) w)) h ∙ ap (λ p. share (Some (Frame (0 + v))) p) g ∙ differ (0 + v) (0 + w) (omega arith)

@@ -12,7 +12,7 @@ use mid_ir::MidFn;
 use std::alloc::Global;
 
 /// The words of a frame from the first on, so many.
-#[tactic(auto, using(crate::proofs::Words::one_more))]
+#[tactic(auto, using(crate::proofs::Words::next_word))]
 fn words(alloc: Global, vars: u32) -> Result<List<Where>, NoMemory>
     ensures { IfOk result (λ all. all ≡ spec.words 0 vars) }
 {
