@@ -19,11 +19,11 @@ Rising n (v ∷ vs) = (n ≤ v) × Rising (suc v) vs
 
 lower : (m n : ℕ) (vs : List ℕ) → m ≤ n → Rising n vs → Rising m vs
 lower m n [] le r = tt
-lower m n (v ∷ vs) le r = (let h = r.0 in omega arith , r.1)
+lower m n (v ∷ vs) le r = (let h = r.0 in omega arith, r.1)
 
 members_rise : (n : ℕ) (xs : Set) → Rising n (members_from n xs)
 members_rise n [] = tt
-members_rise n (true ∷ xs) = (omega arith , members_rise (suc n) xs)
+members_rise n (true ∷ xs) = (omega arith, members_rise (suc n) xs)
 members_rise n (false ∷ xs) = lower n (suc n) (members_from (suc n) xs) (omega arith) (members_rise (suc n) xs)
 
 -- ---- places that differ
@@ -52,7 +52,7 @@ least_none places a (p ∷ ps) all =
 
 joined : (ps qs : List Point) → AllRise ps → AllRise qs → AllRise (ps ++ qs)
 joined [] qs a b = b
-joined (p ∷ ps) qs a b = (a.0 , joined ps qs a.1 b)
+joined (p ∷ ps) qs a b = (a.0, joined ps qs a.1 b)
 
 -- ---- the points of a statement
 
@@ -69,7 +69,7 @@ into : (x : MidStmt-F MidStmt) → ((after : Set) (around : List Set) → AllRis
 into x h after around = subst (λ w. AllRise (w.inner after around)) (sym (fold-roll-MidStmt Walk walk_step x)) (h after around)
 
 one : (x : AStmt) (after : Set) (around : List Set) → AllRise (points_of (walk x.0) after around)
-one x after around = ((members_rise 0 (live_before x.0 after around) , members_rise 0 (with_set after (walk x.0).sets)) , x.1 after around)
+one x after around = ((members_rise 0 (live_before x.0 after around), members_rise 0 (with_set after (walk x.0).sets)), x.1 after around)
 
 all : (xs : List AStmt) (after : Set) (around : List Set) → AllRise (points_all (map walk (stmts xs)) after around)
 all [] after around = tt
@@ -98,7 +98,7 @@ inner_rise : (s : MidStmt) → Good s
 inner_rise = ind-MidStmt Good (λ x y is. subst (λ z. Good (roll-MidStmt z)) is (law y))
 
 pub lives_rise : (f : MidFn) → AllRise (lives f)
-lives_rise f = ((members_rise 0 (with_first (length f.narrow) (live_before f.body (at_end f) [])) , members_rise 0 (with_set (at_end f) (sets f.body))) , inner_rise f.body (at_end f) [])
+lives_rise f = ((members_rise 0 (with_first (length f.narrow) (live_before f.body (at_end f) [])), members_rise 0 (with_set (at_end f) (sets f.body))), inner_rise f.body (at_end f) [])
 
 pub no_clash : (f : MidFn) (places : List Where) → Apart places → clash places (lives f) ≡ None
 no_clash f places a = least_none places a (lives f) (lives_rise f)

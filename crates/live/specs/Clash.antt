@@ -25,7 +25,7 @@ first_sharing places v [] = None
 first_sharing places v (w ∷ ws) = cond (shares places v w) (Some w) (first_sharing places v ws)
 
 abbrev pub pair_or : ℕ → Option ℕ → Option (ℕ × ℕ) → Option (ℕ × ℕ)
-pair_or v (Some w) rest = Some (v , w)
+pair_or v (Some w) rest = Some (v, w)
 pair_or v None rest = rest
 
 -- the least pair of ascending variables that have one place

@@ -97,7 +97,7 @@ at_end f = replicate f.vars false
 abbrev pub beginning : MidFn → Point
 beginning f = record {
   before = members (with_first (length f.narrow) (live_before f.body (at_end f) []));
-  after = members (with_set (at_end f) (sets f.body))
+  after = members (with_set (at_end f) (sets f.body));
 }
 
 abbrev pub lives : MidFn → List Point

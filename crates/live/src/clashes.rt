@@ -68,11 +68,7 @@ fn lesser(p: Option<(u32, u32)>, q: Option<(u32, u32)>) -> Option<(u32, u32)>
 }
 
 /// The least of a clash that was found and of those at these points.
-fn least_from(
-    places: &[Where],
-    found: Option<(u32, u32)>,
-    points: &[Point],
-) -> Option<(u32, u32)>
+fn least_from(places: &[Where], found: Option<(u32, u32)>, points: &[Point]) -> Option<(u32, u32)>
     ensures { result ≡ spec.least_from places.now found points.now }
 {
     let mut least = found;

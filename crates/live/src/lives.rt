@@ -268,7 +268,13 @@ fn inner_all(
 {
     let mut xs = List::from_slice(alloc, after)?;
     for k in 0..list.len() {
-        xs = one(alloc, &list[list.len() - 1 - k], xs.as_slice(), around, done)?;
+        xs = one(
+            alloc,
+            &list[list.len() - 1 - k],
+            xs.as_slice(),
+            around,
+            done,
+        )?;
     }
     Ok(xs)
 }

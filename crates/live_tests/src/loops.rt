@@ -43,12 +43,7 @@ fn function(alloc: Global) -> Result<MidFn, NoMemory> {
 }
 
 /// Whether these variables are live before the statement of this number, and those after it.
-fn is_live(
-    alloc: Global,
-    number: usize,
-    before: &[u32],
-    after: &[u32],
-) -> Result<bool, NoMemory> {
+fn is_live(alloc: Global, number: usize, before: &[u32], after: &[u32]) -> Result<bool, NoMemory> {
     let f = function(alloc)?;
     let lives = live_sets(alloc, &f)?;
     match lives.list.get(number) {

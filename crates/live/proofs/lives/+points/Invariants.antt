@@ -7,5 +7,5 @@ abbrev pub invariant-inner_all-loop-k : goal.invariant-inner_all-loop-k
 invariant-inner_all-loop-k l = record {
   xs : l.xs ≡ before_all (map walk (drop (length l.list - l.k) l.list)) l.after l.around;
   around : l.around ≡ l.fn.around;
-  done : l.done ≡ back_all (map walk (drop (length l.list - l.k) l.list)) l.after l.around l.fn.done
+  done : l.done ≡ back_all (map walk (drop (length l.list - l.k) l.list)) l.after l.around l.fn.done;
 }
