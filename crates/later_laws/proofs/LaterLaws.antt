@@ -1,0 +1,267 @@
+-- Laws of what declarations keep.
+use Rattle.std.proofs.Common.{◌≡◌, ℕ, zero, suc, ◌||◌, ◌&&◌, Bool, true, false, not, cond, if◌then◌else◌, List, [], ◌∷◌, ◌++◌, map, length, take, slice_get, slice_set, position, bytes_eq, ap, ap₂, sym, ◌∙◌, subst, refl, Option, None, Some, true≢false}
+use Rattle.std.specs.List.{list_all, list_any}
+use Rattle.std.proofs.lemmas.List.{map-append}
+use Rattle.std.proofs.lemmas.Slice.Eq.{bytes_eq-Decides}
+use Rattle.c_types.specs.Kind.{look}
+use Rattle.c_types.specs.Sizes.{fits}
+use Rattle.c_types.specs.declared.ctype.CType.{CType}
+use Rattle.c_tree.specs.Conditions.{all_differ, is_twin}
+use Rattle.c_tree.specs.Slots.{all_fit}
+use Rattle.c_tree.specs.declared.program.TLocal.{TLocal}
+use Rattle.c_scope.specs.declared.tables.Known.{Known}
+use Rattle.c_scope.specs.declared.tables.Tables.{Tables}
+use Rattle.c_scope.specs.declared.tables.Linkage.{Linkage}
+use Rattle.c_scope.specs.declared.tables.Meaning.{Meaning}
+use Rattle.c_scope.specs.declared.tables.Scope.{Scope}
+use Rattle.c_scope.specs.Blocks as blocks
+use Rattle.c_scope.specs.Blocks.{close_parameters, open_parameters, with_named}
+use Rattle.c_scope.specs.FileScope.{completed, is_unsized, together, with_body, with_known, with_meaning, with_state}
+use Rattle.c_scope.specs.Index.{added, place_of}
+use Rattle.later_laws.specs.Later.{AreSound, IsLater, Later, Stands, is_free, is_listed, names_of}
+
+no : {A : Type 0} → false ≡ true → A
+no h = absurd (true≢false (sym h))
+
+-- ---- one extern
+
+pub later_itself : (k : Known) → IsLater k k
+later_itself k = record { name = refl; type = λ h. refl; body = λ h. h; linkage = λ h. refl }
+
+pub later_then : (k l m : Known) → IsLater k l → IsLater l m → IsLater k m
+later_then k l m f g = record {
+    name = g.name ∙ f.name;
+    type = λ h. g.type (ap (λ t. is_unsized (look t)) (f.type h) ∙ h) ∙ f.type h;
+    body = λ h. g.body (f.body h);
+    linkage = λ h. g.linkage (f.body h) ∙ f.linkage h;
+  }
+
+-- ---- externs
+
+pub stands_same : (ks : List Known) (n : ℕ) (k : Known) → slice_get ks n ≡ Some k → Stands k ks n
+stands_same ks n k h = record { now = k; there = h; later = later_itself k }
+
+pub stands_push : (ks : List Known) (k : Known) (n : ℕ) (x : Known) → slice_get ks n ≡ Some x → Stands x (ks ++ k ∷ []) n
+stands_push [] k n x h = cc
+stands_push (y ∷ ys) k zero x h = record { now = x; there = h; later = later_itself x }
+stands_push (y ∷ ys) k (suc n) x h = let r = stands_push ys k n x h in record { now = r.now; there = r.there; later = r.later }
+
+pub stands_set : (ks : List Known) (i : ℕ) (k y : Known) → slice_get ks i ≡ Some k → IsLater k y → (n : ℕ) (x : Known) → slice_get ks n ≡ Some x → Stands x (slice_set ks i y) n
+stands_set [] i k y is f n x h = cc
+stands_set (z ∷ zs) zero k y is f zero x h = let e : k ≡ x = cc in record { now = y; there = refl; later = subst (λ u. IsLater u y) e f }
+stands_set (z ∷ zs) zero k y is f (suc n) x h = stands_same (y ∷ zs) (suc n) x h
+stands_set (z ∷ zs) (suc i) k y is f zero x h = stands_same (z ∷ slice_set zs i y) zero x h
+stands_set (z ∷ zs) (suc i) k y is f (suc n) x h = let r = stands_set zs i k y is f n x h in record { now = r.now; there = r.there; later = r.later }
+
+pub names_set : (ks : List Known) (i : ℕ) (k y : Known) → slice_get ks i ≡ Some k → y.name ≡ k.name → names_of (slice_set ks i y) ≡ names_of ks
+names_set [] i k y is f = refl
+names_set (z ∷ zs) zero k y is f = let e : z ≡ k = cc in ap (λ name. name ∷ names_of zs) (f ∙ ap (λ (u : Known). u.name) (sym e))
+names_set (z ∷ zs) (suc i) k y is f = ap (λ ns. z.name ∷ ns) (names_set zs i k y is f)
+
+-- ---- names
+
+same_name : (a : List ℕ) → bytes_eq a a ≡ true
+same_name a = (bytes_eq-Decides a a).1 refl
+
+one_name : (a b : List ℕ) → bytes_eq a b ≡ true → a ≡ b
+one_name a b h = (bytes_eq-Decides a b).0 h
+
+-- whoever is listed stays so
+abbrev pub Wider : List (List ℕ) → List (List ℕ) → Type 0
+Wider names more = (name : List ℕ) → is_listed names name ≡ true → is_listed more name ≡ true
+
+any_first : (p : List ℕ → Bool) (xs ys : List (List ℕ)) → list_any p xs ≡ true → list_any p (xs ++ ys) ≡ true
+any_first p [] ys h = no h
+any_first p (x ∷ xs) ys h = by (p x) h
+  where
+    by : (b : Bool) → (b || list_any p xs) ≡ true → (b || list_any p (xs ++ ys)) ≡ true
+    by true g = refl
+    by false g = any_first p xs ys g
+
+any_last : (p : List ℕ → Bool) (xs : List (List ℕ)) (y : List ℕ) → p y ≡ true → list_any p (xs ++ y ∷ []) ≡ true
+any_last p [] y h = ap (λ b. b || false) h
+any_last p (x ∷ xs) y h = by (p x)
+  where
+    by : (b : Bool) → (b || list_any p (xs ++ y ∷ [])) ≡ true
+    by true = refl
+    by false = any_last p xs y h
+
+pub added_wider : (names : List (List ℕ)) (text : List ℕ) → Wider names (added names text)
+added_wider names text name h = by (list_any (λ x. bytes_eq text x) names)
+  where
+    by : (b : Bool) → is_listed (if b then names else (names ++ text ∷ [])) name ≡ true
+    by true = h
+    by false = any_first (bytes_eq name) names (text ∷ []) h
+
+added_has : (names : List (List ℕ)) (text : List ℕ) → is_listed (added names text) text ≡ true
+added_has names text = by (list_any (λ x. bytes_eq text x) names) refl
+  where
+    by : (b : Bool) → list_any (λ x. bytes_eq text x) names ≡ b → is_listed (if b then names else (names ++ text ∷ [])) text ≡ true
+    by true is = is
+    by false is = any_last (bytes_eq text) names text (same_name text)
+
+pub sound_wider : (names more ns : List (List ℕ)) → Wider names more → AreSound names ns → AreSound more ns
+sound_wider names more ns w h = record { differ = h.differ; free = h.free; listed = all ns h.listed }
+  where
+    all : (xs : List (List ℕ)) → list_all (is_listed names) xs ≡ true → list_all (is_listed more) xs ≡ true
+    all [] g = refl
+    all (x ∷ xs) g = by (is_listed names x) refl g
+      where
+        by : (b : Bool) → is_listed names x ≡ b → (b && list_all (is_listed names) xs) ≡ true → (is_listed more x && list_all (is_listed more) xs) ≡ true
+        by true is g = ap₂ (λ b c. b && c) (w x is) (all xs g)
+        by false is g = no g
+
+-- ---- a new name
+
+no_place : (names : List (List ℕ)) (text : List ℕ) → place_of names text ≡ None → is_listed names text ≡ false
+no_place [] text h = refl
+no_place (x ∷ xs) text h = search rules
+
+-- a name that isn't listed is none of those that are
+is_new : (names ns : List (List ℕ)) (text : List ℕ) → is_listed names text ≡ false → list_all (is_listed names) ns ≡ true → list_any (λ n. bytes_eq n text) ns ≡ false
+is_new names [] text h k = refl
+is_new names (n ∷ ns) text h k = by (is_listed names n) refl k (bytes_eq n text) refl
+  where
+    by : (b : Bool) → is_listed names n ≡ b → (b && list_all (is_listed names) ns) ≡ true → (c : Bool) → bytes_eq n text ≡ c → (c || list_any (λ n. bytes_eq n text) ns) ≡ false
+    by true is g false e = is_new names ns text h g
+    by true is g true e = no (sym h ∙ (ap (is_listed names) (sym (one_name n text e)) ∙ is))
+    by false is g c e = no g
+
+differ_push : (ns : List (List ℕ)) (text : List ℕ) → all_differ ns ≡ true → list_any (λ n. bytes_eq n text) ns ≡ false → all_differ (ns ++ text ∷ []) ≡ true
+differ_push [] text h k = refl
+differ_push (n ∷ ns) text h k = by (list_any (bytes_eq n) ns) refl h (bytes_eq n text) refl k
+  where
+    any_push : (xs : List (List ℕ)) → list_any (bytes_eq n) xs ≡ false → bytes_eq n text ≡ false → list_any (bytes_eq n) (xs ++ text ∷ []) ≡ false
+    any_push [] f g = ap (λ b. b || false) g
+    any_push (x ∷ xs) f g = step (bytes_eq n x) f
+      where
+        step : (b : Bool) → (b || list_any (bytes_eq n) xs) ≡ false → (b || list_any (bytes_eq n) (xs ++ text ∷ [])) ≡ false
+        step true e = no (sym e)
+        step false e = any_push xs e g
+
+    by : (b : Bool) → list_any (bytes_eq n) ns ≡ b → (not b && all_differ ns) ≡ true → (c : Bool) → bytes_eq n text ≡ c → (c || list_any (λ n. bytes_eq n text) ns) ≡ false → (not (list_any (bytes_eq n) (ns ++ text ∷ [])) && all_differ (ns ++ text ∷ [])) ≡ true
+    by true is g c e f = no g
+    by false is g true e f = no (sym f)
+    by false is g false e f = ap₂ (λ b c. not b && c) (any_push ns is e) (differ_push ns text g f)
+
+all_last : (p : List ℕ → Bool) (ns : List (List ℕ)) (text : List ℕ) → list_all p ns ≡ true → p text ≡ true → list_all p (ns ++ text ∷ []) ≡ true
+all_last p [] text h k = ap (λ b. b && true) k
+all_last p (n ∷ ns) text h k = by (p n) h
+  where
+    by : (b : Bool) → (b && list_all p ns) ≡ true → (b && list_all p (ns ++ text ∷ [])) ≡ true
+    by true g = all_last p ns text g k
+    by false g = g
+
+pub sound_push : (names ns : List (List ℕ)) (text : List ℕ) → place_of names text ≡ None → is_twin text ≡ false → AreSound names ns → AreSound (added names text) (ns ++ text ∷ [])
+sound_push names ns text new free h =
+    let wide = sound_wider names (added names text) ns (added_wider names text) h in
+    record {
+      differ = differ_push ns text h.differ (is_new names ns text (no_place names text new) h.listed);
+      free = all_last is_free ns text h.free (ap not free);
+      listed = all_last (is_listed (added names text)) ns text wide.listed (added_has names text);
+    }
+
+-- ---- tables
+
+pub later_same : (s : Tables) → Later s s
+later_same s = record { externs = stands_same s.externs; sound = λ h. h; locals = λ h. h }
+
+pub later_trans : (s t u : Tables) → Later s t → Later t u → Later s u
+later_trans s t u f g = record {
+    externs = λ n k h. let a = f.externs n k h in let b = g.externs n a.now a.there in record { now = b.now; there = b.there; later = later_then k a.now b.now a.later b.later };
+    sound = λ h. g.sound (f.sound h);
+    locals = λ h. g.locals (f.locals h);
+  }
+
+-- the same externs, and the same locals
+pub later_beside : (s t : Tables) → s.externs ≡ t.externs → s.locals ≡ t.locals → Wider s.names t.names → Later s t
+later_beside s t e l w = record {
+    externs = λ n k h. stands_same t.externs n k (ap (λ ks. slice_get ks n) (sym e) ∙ h);
+    sound = λ h. subst (λ ks. AreSound t.names (names_of ks)) e (sound_wider s.names t.names (names_of s.externs) w h);
+    locals = λ h. subst (λ ls. all_fit ls ≡ true) l h;
+  }
+
+pub fit_push : (ls : List TLocal) (x : TLocal) → fits x.ctype ≡ true → all_fit ls ≡ true → all_fit (ls ++ x ∷ []) ≡ true
+fit_push [] x f h = ap (λ b. b && true) f
+fit_push (l ∷ ls) x f h = by (fits l.ctype) h
+  where
+    by : (b : Bool) → (b && all_fit ls) ≡ true → (b && all_fit (ls ++ x ∷ [])) ≡ true
+    by true g = fit_push ls x f g
+    by false g = g
+
+pub fit_set : (ls : List TLocal) (n : ℕ) (x : TLocal) → fits x.ctype ≡ true → all_fit ls ≡ true → all_fit (slice_set ls n x) ≡ true
+fit_set [] n x f h = refl
+fit_set (l ∷ ls) zero x f h = by (fits l.ctype) h
+  where
+    by : (b : Bool) → (b && all_fit ls) ≡ true → (fits x.ctype && all_fit ls) ≡ true
+    by true g = ap₂ (λ b c. b && c) f g
+    by false g = no g
+fit_set (l ∷ ls) (suc n) x f h = by (fits l.ctype) h
+  where
+    by : (b : Bool) → (b && all_fit ls) ≡ true → (b && all_fit (slice_set ls n x)) ≡ true
+    by true g = fit_set ls n x f g
+    by false g = g
+
+pub fit_take : (n : ℕ) (ls : List TLocal) → all_fit ls ≡ true → all_fit (take n ls) ≡ true
+fit_take zero ls h = refl
+fit_take (suc n) [] h = refl
+fit_take (suc n) (l ∷ ls) h = by (fits l.ctype) h
+  where
+    by : (b : Bool) → (b && all_fit ls) ≡ true → (b && all_fit (take n ls)) ≡ true
+    by true g = fit_take n ls g
+    by false g = g
+
+-- other locals alone
+pub later_locals : (s : Tables) (ls : List TLocal) → (all_fit s.locals ≡ true → all_fit ls ≡ true) → Later s (record s { locals = ls })
+later_locals s ls f = record { externs = stands_same s.externs; sound = λ h. h; locals = f }
+
+-- an extern in the place of another
+pub later_set : (s : Tables) (n : ℕ) (k y : Known) → slice_get s.externs n ≡ Some k → IsLater k y → Later s (record s { externs = slice_set s.externs n y })
+later_set s n k y is f = record {
+    externs = stands_set s.externs n k y is f;
+    sound = λ h. subst (AreSound s.names) (sym (names_set s.externs n k y is f.name)) h;
+    locals = λ h. h;
+  }
+
+-- an extern of a new name
+pub later_new : (s : Tables) (k : Known) → place_of s.names k.name ≡ None → is_twin k.name ≡ false → Later s (with_known k s)
+later_new s k new free = record {
+    externs = stands_push s.externs k;
+    sound = λ h. subst (AreSound (added s.names k.name)) (sym (map-append (λ (x : Known). x.name) s.externs (k ∷ []))) (sound_push s.names (names_of s.externs) k.name new free h);
+    locals = λ h. h;
+  }
+
+-- a name of file scope that is no function and no global
+pub later_meaning : (s : Tables) (text : List ℕ) (m : Meaning) → Later s (with_meaning text m s)
+later_meaning s text m = later_beside s (with_meaning text m s) refl refl (added_wider s.names text)
+
+-- ---- locals
+
+pub later_local : (s : Tables) (x : TLocal) → fits x.ctype ≡ true → Later s (record s { locals = s.locals ++ x ∷ [] })
+later_local s x f = later_locals s (s.locals ++ x ∷ []) (fit_push s.locals x f)
+
+pub later_named : (text : List ℕ) (t : CType) (s : Tables) → fits t ≡ true → Later s (with_named text t s)
+later_named text t s f = record { externs = stands_same s.externs; sound = λ h. h; locals = fit_push s.locals (record { name = text; ctype = t }) f }
+
+pub later_completed : (n : ℕ) (t : CType) (s : Tables) (l : TLocal) → fits t ≡ true → Later s (record s { locals = slice_set s.locals n (blocks.completed t l) })
+later_completed n t s l f = later_locals s (slice_set s.locals n (blocks.completed t l)) (fit_set s.locals n (blocks.completed t l) f)
+
+-- a parameter list that began at s
+pub later_closed : (outer : Scope) (s t : Tables) → Later s t → Later s (close_parameters (open_parameters outer s) t)
+later_closed outer s t h = record { externs = h.externs; sound = h.sound; locals = λ f. fit_take (length s.locals) t.locals (h.locals f) }
+
+-- ---- externs that are declared again, defined or completed
+
+pub later_together : (k : Known) (how : Linkage) → IsLater k (with_state (together k.state how) k)
+later_together k how = record { name = refl; type = λ h. refl; body = λ h. h; linkage = λ h. ap (λ b. k.state.is_static || (how.is_static && not b)) h ∙ plain k.state.is_static how.is_static }
+  where
+    plain : (a b : Bool) → (a || (b && false)) ≡ a
+    plain true b = refl
+    plain false true = refl
+    plain false false = refl
+
+pub later_body : (k : Known) → IsLater k (with_state (with_body k.state) k)
+later_body k = record { name = refl; type = λ h. refl; body = λ h. refl; linkage = λ h. refl }
+
+pub later_object : (k : Known) (t : CType) → is_unsized (look k.ctype) ≡ true → IsLater k (completed t k)
+later_object k t h = record { name = refl; type = λ g. no (sym g ∙ h); body = λ g. g; linkage = λ g. refl }
