@@ -6,6 +6,7 @@ use Rattle.c_tree.specs.Numbers.{Names}
 use Rattle.c_scope.specs.declared.tables.Tables.{Tables}
 use Rattle.c_rows.specs.Answers.{Checked, ◌>>=◌, fault}
 use Rattle.c_scope.specs.Steps.{◌>>>◌, keeping, refuse}
+use Rattle.later_laws.proofs.LaterLaws.{later_same, later_trans}
 use Rattle.range_laws.specs.Ranges.{Grows, IsWithin, NamesWithin, names, range}
 use Rattle.range_laws.specs.Few.{IsFit}
 use Rattle.range_laws.specs.Steps.{Answers, Came, Goes}
@@ -17,10 +18,10 @@ pub names_trans : (a b c : Names) → NamesWithin a b → NamesWithin b c → Na
 names_trans a b c f g = record { globals = λ n h. g.globals n (f.globals n h); functions = λ n many h. g.functions n many (f.functions n many h) }
 
 pub grows_same : (s : Tables) → Grows s s
-grows_same s = record { externs = names_same (names s); locals = le_refl (length s.locals) }
+grows_same s = record { later = later_same s; externs = names_same (names s); locals = le_refl (length s.locals) }
 
 pub grows_trans : (s t u : Tables) → Grows s t → Grows t u → Grows s u
-grows_trans s t u f g = record { externs = names_trans (names s) (names t) (names u) f.externs g.externs; locals = le_trans f.locals g.locals }
+grows_trans s t u f g = record { later = later_trans s t u f.later g.later; externs = names_trans (names s) (names t) (names u) f.externs g.externs; locals = le_trans f.locals g.locals }
 
 pub within : (entry : Bool) (s t : Tables) → Grows s t → IsWithin (range entry s) (range entry t)
 within entry s t g = record { names = g.externs; locals = g.locals; entry = λ h. h }

@@ -8,7 +8,7 @@ use Rattle.c_ast.specs.declared.expr.Name.{Name}
 use Rattle.c_types.specs.declared.ctype.CType.{CType}
 use Rattle.c_types.specs.declared.ctype.Shape.TheOpen as shape
 use Rattle.c_types.specs.declared.same.Units.TheVariants.{One}
-use Rattle.c_types.specs.Kind.{Look, is_function, look, looks_function}
+use Rattle.c_types.specs.Kind.{is_complete, is_function, is_struct, look, Look, looks_function}
 use Rattle.c_types.specs.Same.{same_type}
 use Rattle.c_types.specs.Sizes.{align_of, fits, size_of}
 use Rattle.c_tree.specs.declared.program.TLocal.{TLocal}
@@ -33,7 +33,10 @@ use Rattle.c_scope.specs.Blocks as blocks
 use Rattle.c_scope.specs.Blocks.{close_block, close_parameters, complete_as, complete_local, declare_local, declare_named, declare_parameter, declare_unnamed, open_parameters, parameter_fault, with_local, with_named}
 use Rattle.c_scope.specs.Layout.{added, placed, placed_as}
 use Rattle.c_scope.specs.Tags.{begin_enum, begin_struct, begun_again, begun_as, declare_struct, end_struct, ended, enum_use, finished, first_seen, is_enum, known_type, struct_as, struct_type, struct_use, tag_in, tag_of, file_tag, unknown, with_block_tag, with_file_tag, with_struct, with_tag}
-use Rattle.c_scope.specs.FileScope.{clashes, clashes_as, clashes_at, clashes_with, complete_object, completed, completed_as, declare_constant, declare_function, declare_object, declare_typedef, declared, declared_again, declared_as, declared_at, define_function, defined_as, first_known, together, with_body, with_known, with_meaning, with_state}
+use Rattle.c_scope.specs.FileScope.{clashes, clashes_as, clashes_at, clashes_with, complete_object, completed, completed_as, declare_constant, declare_function, declare_object, declare_typedef, declared, declared_again, declared_as, declared_at, define_function, defined_as, first_known, is_unsized, together, with_body, with_known, with_meaning, with_state}
+use Rattle.c_tree.specs.Conditions.{is_twin}
+use Rattle.later_laws.specs.Later.{IsLater}
+use Rattle.later_laws.proofs.LaterLaws.{Wider, added_wider, later_beside, later_body, later_closed, later_completed, later_local, later_named, later_new, later_object, later_set, later_together}
 use Rattle.range_laws.specs.Ranges.{Grows, NamesWithin, extern_of, externs_of, names}
 use Rattle.range_laws.specs.Few.{IsFit, few, meaning_few, members_few}
 use Rattle.range_laws.specs.Steps.{Answers, Anything, Came, Goes, HasFew, IsLocal, IsObjectAt, Leads, TypeIsFew}
@@ -93,8 +96,8 @@ kept_object : (k y : Known) → is_function k.ctype ≡ false → is_function y.
 kept_object k y f g = record { objects = λ h. ap not g; functions = λ many h. clash (is_function k.ctype) (no_object many (look k.ctype) h) f }
 
 -- tables with the same functions and globals, and the same locals
-grows_beside : (s t : Tables) → s.externs ≡ t.externs → s.locals ≡ t.locals → Grows s t
-grows_beside s t e l = record { externs = subst (λ xs. NamesWithin (names s) (names_of_unit (map extern_of xs))) e (names_same (names s)); locals = subst (λ xs. length s.locals ≤ length xs) l (le_refl (length s.locals)) }
+grows_beside : (s t : Tables) → s.externs ≡ t.externs → s.locals ≡ t.locals → Wider s.names t.names → Grows s t
+grows_beside s t e l w = record { later = later_beside s t e l w; externs = subst (λ xs. NamesWithin (names s) (names_of_unit (map extern_of xs))) e (names_same (names s)); locals = subst (λ xs. length s.locals ≤ length xs) l (le_refl (length s.locals)) }
 
 -- ---- blocks and parameter lists
 
@@ -107,9 +110,13 @@ one_local s l = let n = length_push s.locals l in omega (arith, n)
 last_local : (s : Tables) (l : TLocal) → length s.locals < length (s.locals ++ l ∷ [])
 last_local s l = let n = length_push s.locals l in omega (arith, n)
 
-named_came : (text : List ℕ) (t : CType) (s : Tables) → IsFit s → few t ≡ true → Came IsLocal s (length s.locals) (with_named text t s)
-named_came text t s fit f = record {
-    grows = record { externs = names_same (names s); locals = one_local s (record { name = text; ctype = t }) };
+pass : (b : Bool) → not b ≡ false → b ≡ true
+pass true h = refl
+pass false h = no (sym h)
+
+named_came : (text : List ℕ) (t : CType) (s : Tables) → IsFit s → few t ≡ true → fits t ≡ true → Came IsLocal s (length s.locals) (with_named text t s)
+named_came text t s fit f room = record {
+    grows = record { later = later_named text t s room; externs = names_same (names s); locals = one_local s (record { name = text; ctype = t }) };
     fit = record { meanings = fit.meanings; locals = all_push local_few s.locals (record { name = text; ctype = t }) fit.locals f; structs = fit.structs; externs = fit.externs };
     holds = last_local s (record { name = text; ctype = t });
   }
@@ -121,47 +128,55 @@ local_law scope name t initialised s fit f =
     goes_unless s (not (blocks.is_made initialised t)) 25 name.place _ (λ c.
     goes_unless s (has_secure_pointer t) 29 name.place _ (λ d.
     goes_unless s (is_reserved name.text) 45 name.place _ (λ e.
-    record { it = named_came name.text t s fit f })))))
+    record { it = named_came name.text t s fit f (pass (fits t) b) })))))
 
 anything : {A : Type 0} {Q : A → Tables → Type 0} (s t : Tables) (x : A) → Came Q s x t → {B : Type 0} (y : B) → Came Anything s y t
 anything s t x h y = record { grows = h.grows; fit = h.fit; holds = tt }
 
-unnamed_by : (t : CType) (first : Place) (o : Option ℕ) (s : Tables) → IsFit s → few t ≡ true → Goes Anything s (declare_unnamed t first o s)
-unnamed_by t first (Some code) s fit f = stops
-unnamed_by t first None s fit f = record { it = record {
-    grows = record { externs = names_same (names s); locals = one_local s (record { name = []; ctype = t }) };
+-- a parameter without a fault is not too large
+room_of : (t : CType) → parameter_fault t ≡ None → fits t ≡ true
+room_of t h = by (fits t) refl h
+  where
+    by : (b : Bool) → fits t ≡ b → cond (not b) (Some 24) (cond (not (is_complete t)) (Some 25) (cond (is_struct t || has_secure_pointer t) (Some 29) None)) ≡ None → fits t ≡ true
+    by true is g = is
+    by false is g = cc
+
+unnamed_by : (t : CType) (first : Place) (o : Option ℕ) (s : Tables) → IsFit s → few t ≡ true → parameter_fault t ≡ o → Goes Anything s (declare_unnamed t first o s)
+unnamed_by t first (Some code) s fit f is = stops
+unnamed_by t first None s fit f is = record { it = record {
+    grows = record { later = later_local s (record { name = []; ctype = t }) (room_of t is); externs = names_same (names s); locals = one_local s (record { name = []; ctype = t }) };
     fit = record { meanings = fit.meanings; locals = all_push local_few s.locals (record { name = []; ctype = t }) fit.locals f; structs = fit.structs; externs = fit.externs };
     holds = tt;
   } }
 
-parameter_by : (name : Name) (t : CType) (o : Option ℕ) (s : Tables) → IsFit s → few t ≡ true → Goes Anything s (declare_named name t o s)
-parameter_by name t (Some code) s fit f = stops
-parameter_by name t None s fit f = goes_unless s (is_reserved name.text) 45 name.place _ (λ e. record { it = anything s (with_named name.text t s) (length s.locals) (named_came name.text t s fit f) tt })
+parameter_by : (name : Name) (t : CType) (o : Option ℕ) (s : Tables) → IsFit s → few t ≡ true → parameter_fault t ≡ o → Goes Anything s (declare_named name t o s)
+parameter_by name t (Some code) s fit f is = stops
+parameter_by name t None s fit f is = goes_unless s (is_reserved name.text) 45 name.place _ (λ e. record { it = anything s (with_named name.text t s) (length s.locals) (named_came name.text t s fit f (room_of t is)) tt })
 
 pub parameter_law : (scope : Scope) (name : Option Name) (t : CType) (first : Place) (s : Tables) → IsFit s → few t ≡ true → Goes Anything s (declare_parameter scope name t first s)
-parameter_law scope (Some name) t first s fit f = goes_unless s (blocks.is_declared s.blocks scope.names name.text) 21 name.place _ (λ a. parameter_by name t (parameter_fault t) s fit f)
-parameter_law scope None t first s fit f = unnamed_by t first (parameter_fault t) s fit f
+parameter_law scope (Some name) t first s fit f = goes_unless s (blocks.is_declared s.blocks scope.names name.text) 21 name.place _ (λ a. parameter_by name t (parameter_fault t) s fit f refl)
+parameter_law scope None t first s fit f = unnamed_by t first (parameter_fault t) s fit f refl
 
-completed_by : (n : ℕ) (t : CType) (s : Tables) (o : Option TLocal) → IsFit s → few t ≡ true → Leads s (complete_as n t s o)
-completed_by n t s (Some l) fit f = record {
-    grows = record { externs = names_same (names s); locals = let e = length-set s.locals n (blocks.completed t l) in omega (arith, e) };
+completed_by : (n : ℕ) (t : CType) (s : Tables) (o : Option TLocal) → IsFit s → few t ≡ true → fits t ≡ true → Leads s (complete_as n t s o)
+completed_by n t s (Some l) fit f room = record {
+    grows = record { later = later_completed n t s l room; externs = names_same (names s); locals = let e = length-set s.locals n (blocks.completed t l) in omega (arith, e) };
     fit = record { meanings = fit.meanings; locals = all_set local_few s.locals n (blocks.completed t l) fit.locals f; structs = fit.structs; externs = fit.externs };
   }
-completed_by n t s None fit f = record { grows = grows_same s; fit = fit }
+completed_by n t s None fit f room = record { grows = grows_same s; fit = fit }
 
-pub complete_local_law : (n : ℕ) (t : CType) (s : Tables) → IsFit s → few t ≡ true → Leads s (complete_local n t s)
-complete_local_law n t s fit f = completed_by n t s (slice_get s.locals n) fit f
+pub complete_local_law : (n : ℕ) (t : CType) (s : Tables) → IsFit s → few t ≡ true → fits t ≡ true → Leads s (complete_local n t s)
+complete_local_law n t s fit f room = completed_by n t s (slice_get s.locals n) fit f room
 
 pub close_block_law : (scope : Scope) (s : Tables) → IsFit s → Leads s (close_block scope s)
 close_block_law scope s fit = record {
-    grows = record { externs = names_same (names s); locals = le_refl (length s.locals) };
+    grows = record { later = later_beside s (close_block scope s) refl refl (λ name h. h); externs = names_same (names s); locals = le_refl (length s.locals) };
     fit = record { meanings = fit.meanings; locals = fit.locals; structs = fit.structs; externs = fit.externs };
   }
 
 -- a parameter list that began at s
 pub close_parameters_law : (outer : Scope) (s t : Tables) → Grows s t → IsFit t → Leads s (close_parameters (open_parameters outer s) t)
 close_parameters_law outer s t g fit = record {
-    grows = record { externs = g.externs; locals = let e = length-take (length s.locals) t.locals in omega (arith, e, g.locals) };
+    grows = record { later = later_closed outer s t g.later; externs = g.externs; locals = let e = length-take (length s.locals) t.locals in omega (arith, e, g.locals) };
     fit = record { meanings = fit.meanings; locals = all_take local_few (length s.locals) t.locals fit.locals; structs = fit.structs; externs = fit.externs };
   }
 
@@ -171,21 +186,21 @@ pub tag_leads : (scope : Scope) (text : List ℕ) (tag : Tag) (s : Tables) → I
 tag_leads scope text tag s fit = by scope.is_file
   where
     by : (b : Bool) → Leads s (cond b (with_file_tag text tag s) (with_block_tag text tag s))
-    by true = record { grows = grows_beside s (with_file_tag text tag s) refl refl; fit = record { meanings = fit.meanings; locals = fit.locals; structs = fit.structs; externs = fit.externs } }
-    by false = record { grows = grows_beside s (with_block_tag text tag s) refl refl; fit = record { meanings = fit.meanings; locals = fit.locals; structs = fit.structs; externs = fit.externs } }
+    by true = record { grows = grows_beside s (with_file_tag text tag s) refl refl (λ name h. h); fit = record { meanings = fit.meanings; locals = fit.locals; structs = fit.structs; externs = fit.externs } }
+    by false = record { grows = grows_beside s (with_block_tag text tag s) refl refl (λ name h. h); fit = record { meanings = fit.meanings; locals = fit.locals; structs = fit.structs; externs = fit.externs } }
 
 abbrev struct_few : StructInfo → Bool
 struct_few i = members_few i.members
 
 struct_leads : (i : StructInfo) (s : Tables) → IsFit s → members_few i.members ≡ true → Leads s (with_struct i s)
 struct_leads i s fit f = record {
-    grows = grows_beside s (with_struct i s) refl refl;
+    grows = grows_beside s (with_struct i s) refl refl (λ name h. h);
     fit = record { meanings = fit.meanings; locals = fit.locals; structs = all_push struct_few s.structs i fit.structs f; externs = fit.externs };
   }
 
 set_leads : (n : ℕ) (i : StructInfo) (s : Tables) → IsFit s → members_few i.members ≡ true → Leads s (record s { structs = slice_set s.structs n i })
 set_leads n i s fit f = record {
-    grows = grows_beside s (record s { structs = slice_set s.structs n i }) refl refl;
+    grows = grows_beside s (record s { structs = slice_set s.structs n i }) refl refl (λ name h. h);
     fit = record { meanings = fit.meanings; locals = fit.locals; structs = all_set struct_few s.structs n i fit.structs f; externs = fit.externs };
   }
 
@@ -229,7 +244,7 @@ begun_by name None s fit =
     let i : StructInfo = unknown name.text true in
     let one = struct_leads i s fit refl in
     came_by s (with_file_tag name.text (Struct (length s.structs)) (with_struct i s)) (length s.structs)
-    (record { grows = grows_beside s (with_file_tag name.text (Struct (length s.structs)) (with_struct i s)) refl refl; fit = record { meanings = one.fit.meanings; locals = one.fit.locals; structs = one.fit.structs; externs = one.fit.externs } }) tt
+    (record { grows = grows_beside s (with_file_tag name.text (Struct (length s.structs)) (with_struct i s)) refl refl (λ name h. h); fit = record { meanings = one.fit.meanings; locals = one.fit.locals; structs = one.fit.structs; externs = one.fit.externs } }) tt
 
 pub begin_struct_law : (tag : Option Name) (s : Tables) → IsFit s → Goes Anything s (begin_struct tag s)
 begin_struct_law (Some name) s fit = begun_by name (file_tag s name.text) s fit
@@ -245,7 +260,7 @@ end_struct_law n l place s fit f = goes_unless s _ 24 place _ (λ a. ended_by n 
 
 pub begin_enum_law : (tag : Option Name) (s : Tables) → IsFit s → Goes Anything s (begin_enum tag s)
 begin_enum_law (Some name) s fit = goes_unless s (is_some (file_tag s name.text)) 21 name.place _ (λ a.
-    came_by s (with_file_tag name.text Enum s) tt (record { grows = grows_beside s (with_file_tag name.text Enum s) refl refl; fit = record { meanings = fit.meanings; locals = fit.locals; structs = fit.structs; externs = fit.externs } }) tt)
+    came_by s (with_file_tag name.text Enum s) tt (record { grows = grows_beside s (with_file_tag name.text Enum s) refl refl (λ name h. h); fit = record { meanings = fit.meanings; locals = fit.locals; structs = fit.structs; externs = fit.externs } }) tt)
 begin_enum_law None s fit = stays s tt fit tt
 
 -- ---- members
@@ -264,7 +279,7 @@ added_law name t l f h =
 
 meaning_leads : (text : List ℕ) (m : Meaning) (s : Tables) → IsFit s → meaning_few m ≡ true → Leads s (with_meaning text m s)
 meaning_leads text m s fit f = record {
-    grows = grows_beside s (with_meaning text m s) refl refl;
+    grows = grows_beside s (with_meaning text m s) refl refl (added_wider s.names text);
     fit = record { meanings = all_push meaning_few s.meanings m fit.meanings f; locals = fit.locals; structs = fit.structs; externs = fit.externs };
   }
 
@@ -286,18 +301,18 @@ abbrev known_few : Known → Bool
 known_few k = few k.ctype
 
 -- an extern in the place of another that is like it
-known_leads : (n : ℕ) (k y : Known) (s : Tables) → IsFit s → slice_get s.externs n ≡ Some k → IsKept (Some k) (Some y) → few y.ctype ≡ true → Leads s (record s { externs = slice_set s.externs n y })
-known_leads n k y s fit is like f = record {
-    grows = record { externs = names_kept s (record s { externs = slice_set s.externs n y }) (kept_set s.externs n k y is like); locals = le_refl (length s.locals) };
+known_leads : (n : ℕ) (k y : Known) (s : Tables) → IsFit s → slice_get s.externs n ≡ Some k → IsKept (Some k) (Some y) → IsLater k y → few y.ctype ≡ true → Leads s (record s { externs = slice_set s.externs n y })
+known_leads n k y s fit is like old f = record {
+    grows = record { later = later_set s n k y is old; externs = names_kept s (record s { externs = slice_set s.externs n y }) (kept_set s.externs n k y is like); locals = le_refl (length s.locals) };
     fit = record { meanings = fit.meanings; locals = fit.locals; structs = fit.structs; externs = all_set known_few s.externs n y fit.externs f };
   }
 
 type_few_at : (n : ℕ) (k : Known) (s : Tables) → IsFit s → slice_get s.externs n ≡ Some k → few k.ctype ≡ true
 type_few_at n k s fit is = subst (λ o. or_pass known_few o ≡ true) is (all_get known_few s.externs n fit.externs)
 
-new_leads : (k : Known) (s : Tables) → IsFit s → few k.ctype ≡ true → Leads s (with_known k s)
-new_leads k s fit f = record {
-    grows = record { externs = names_kept s (with_known k s) (kept_push s.externs k); locals = le_refl (length s.locals) };
+new_leads : (k : Known) (s : Tables) → IsFit s → few k.ctype ≡ true → place_of s.names k.name ≡ None → is_twin k.name ≡ false → Leads s (with_known k s)
+new_leads k s fit f new free = record {
+    grows = record { later = later_new s k new free; externs = names_kept s (with_known k s) (kept_push s.externs k); locals = le_refl (length s.locals) };
     fit = record { meanings = all_push meaning_few s.meanings (Extern (length s.externs)) fit.meanings refl; locals = fit.locals; structs = fit.structs; externs = all_push known_few s.externs k fit.externs f };
   }
 
@@ -334,11 +349,11 @@ or_left false y h = refl
 same_kind : (t : CType) (how : Linkage) (k : Known) (b : Bool) → clashes_with t how (Some k) ≡ false → is_function t ≡ b → is_function k.ctype ≡ b
 same_kind t how k b h is = functions_alike k.ctype t (not_false (same_type k.ctype t) (or_left (not (same_type k.ctype t)) _ h)) ∙ is
 
-module _ (name : Name) (t : CType) (how : Linkage) (b : Bool) (is_b : is_function t ≡ b) (f : few t ≡ true) (s : Tables) (fit : IsFit s) where
+module _ (name : Name) (t : CType) (how : Linkage) (b : Bool) (is_b : is_function t ≡ b) (f : few t ≡ true) (free : is_reserved name.text ≡ false) (s : Tables) (fit : IsFit s) where
   again_law : (n : ℕ) (o : Option Known) → slice_get s.externs n ≡ o → clashes_with t how o ≡ false → Goes (Numbered b) s (declared_again n name how o s)
   again_law n (Some k) is c = goes_unless s _ 40 name.place _ (λ a.
       let y : Known = with_state (together k.state how) k in
-      let leads = known_leads n k y s fit is (kept_type k y refl) (type_few_at n k s fit is) in
+      let leads = known_leads n k y s fit is (kept_type k y refl) (later_together k how) (type_few_at n k s fit is) in
       came_by s (record s { externs = slice_set s.externs n y }) n leads (old_number b n k s (record s { externs = slice_set s.externs n y }) is (same_kind t how k b c is_b) leads.grows))
   again_law n None is c = stops
 
@@ -350,12 +365,12 @@ module _ (name : Name) (t : CType) (how : Linkage) (b : Bool) (is_b : is_functio
   declared_by (Some (Intrinsic i)) c = stops
   declared_by None c = stops
 
-  declared_at_law : (o : Option ℕ) → clashes_at s t how o ≡ false → Goes (Numbered b) s (declared_at name t how o s)
-  declared_at_law (Some i) c = declared_by (slice_get s.meanings i) c
-  declared_at_law None c = came_by s (with_known (first_known name t how) s) (length s.externs) (new_leads (first_known name t how) s fit f) (new_number b (first_known name t how) s is_b)
+  declared_at_law : (o : Option ℕ) → place_of s.names name.text ≡ o → clashes_at s t how o ≡ false → Goes (Numbered b) s (declared_at name t how o s)
+  declared_at_law (Some i) new c = declared_by (slice_get s.meanings i) c
+  declared_at_law None new c = came_by s (with_known (first_known name t how) s) (length s.externs) (new_leads (first_known name t how) s fit f new (or_left (is_twin name.text) _ free)) (new_number b (first_known name t how) s is_b)
 
   declared_law : clashes s name t how ≡ false → Goes (Numbered b) s (declared name t how s)
-  declared_law c = declared_at_law (place_of s.names name.text) c
+  declared_law c = declared_at_law (place_of s.names name.text) refl c
 
 pub object_law : (name : Name) (t : CType) (how : Linkage) (initialised : Bool) (s : Tables) → IsFit s → few t ≡ true → is_function t ≡ false → Goes IsObjectAt s (declare_object name t how initialised s)
 object_law name t how initialised s fit f is =
@@ -364,7 +379,7 @@ object_law name t how initialised s fit f is =
     goes_unless s _ 25 name.place _ (λ c.
     goes_unless s (has_secure_pointer t) 29 name.place _ (λ d.
     goes_unless s (is_reserved name.text) 45 name.place _ (λ e.
-    declared_law name t how false is f s fit a)))))
+    declared_law name t how false is f e s fit a)))))
 
 any_number : (b : Bool) (s : Tables) (r : Checked (ℕ × Tables)) → Goes (Numbered b) s r → Goes Anything s r
 any_number b s (Ok p) h = record { it = record { grows = h.it.grows; fit = h.it.fit; holds = tt } }
@@ -376,21 +391,25 @@ function_law name t how s fit f =
     goes_unless s (not (fits t)) 24 name.place _ (λ b.
     goes_unless s _ 29 name.place _ (λ c.
     goes_unless s (is_reserved name.text) 45 name.place _ (λ d.
-    any_number (is_function t) s _ (declared_law name t how (is_function t) refl f s fit a)))))
+    any_number (is_function t) s _ (declared_law name t how (is_function t) refl f d s fit a)))))
 
 defined_by : (n : ℕ) (s : Tables) (o : Option Known) → IsFit s → slice_get s.externs n ≡ o → Leads s (defined_as n s o)
-defined_by n s (Some k) fit is = known_leads n k (with_state (with_body k.state) k) s fit is (kept_type k (with_state (with_body k.state) k) refl) (type_few_at n k s fit is)
+defined_by n s (Some k) fit is = known_leads n k (with_state (with_body k.state) k) s fit is (kept_type k (with_state (with_body k.state) k) refl) (later_body k) (type_few_at n k s fit is)
 defined_by n s None fit is = record { grows = grows_same s; fit = fit }
 
 pub define_function_law : (n : ℕ) (s : Tables) → IsFit s → Leads s (define_function n s)
 define_function_law n s fit = defined_by n s (slice_get s.externs n) fit refl
 
 object_by : (n : ℕ) (t : CType) (s : Tables) (o : Option Known) → IsFit s → few t ≡ true → is_function t ≡ false → slice_get s.externs n ≡ o → is_object (option_map extern_of o) ≡ true → Leads s (completed_as n t s o)
-object_by n t s (Some k) fit f g is h = known_leads n k (completed t k) s fit is (kept_object k (completed t k) (not_function (is_function k.ctype) h) g) f
+object_by n t s (Some k) fit f g is h = by (is_unsized (look k.ctype)) refl
   where
     not_function : (b : Bool) → not b ≡ true → b ≡ false
     not_function true e = no e
     not_function false e = refl
+
+    by : (b : Bool) → is_unsized (look k.ctype) ≡ b → Leads s (cond b (record s { externs = slice_set s.externs n (completed t k) }) s)
+    by true e = known_leads n k (completed t k) s fit is (kept_object k (completed t k) (not_function (is_function k.ctype) h) g) (later_object k t e) f
+    by false e = record { grows = grows_same s; fit = fit }
 object_by n t s None fit f g is h = record { grows = grows_same s; fit = fit }
 
 pub complete_object_law : (n : ℕ) (t : CType) (s : Tables) → IsFit s → few t ≡ true → is_function t ≡ false → IsObjectAt n s → Leads s (complete_object n t s)

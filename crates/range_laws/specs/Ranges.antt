@@ -5,6 +5,7 @@ use Rattle.c_tree.specs.Numbers.{Names, names_of_unit}
 use Rattle.c_tree.specs.Numbers.{Around as Range}
 use Rattle.c_scope.specs.declared.tables.Known.{Known}
 use Rattle.c_scope.specs.declared.tables.Tables.{Tables}
+use Rattle.later_laws.specs.Later.{Later}
 
 -- a function or a global as a unit lists it
 abbrev pub extern_of : Known → Extern
@@ -31,7 +32,8 @@ pub record IsWithin (a b : Range) : Type 0 where
   pub locals : a.locals ≤ b.locals
   pub entry : a.entry ≡ true → b.entry ≡ true
 
--- What declarations do in a function: the externs and the locals of s are there in t too.
+-- What declarations do: the externs and the locals of s are there in t too, and later declarations keep what those before them say.
 pub record Grows (s t : Tables) : Type 0 where
+  pub later : Later s t
   pub externs : NamesWithin (names s) (names t)
   pub locals : length s.locals ≤ length t.locals

@@ -5,6 +5,7 @@ ghost use Rattle.cm_base.specs.declared.place.Place.{Place};
 ghost use Rattle.c_ast.specs.declared.expr.Name.{Name};
 ghost use Rattle.c_types.specs.declared.ctype.CType.{CType};
 ghost use Rattle.c_types.specs.Kind.{is_function};
+ghost use Rattle.c_types.specs.Sizes.{fits};
 ghost use Rattle.c_tree.specs.declared.expr.BinOp.{BinOp};
 ghost use Rattle.c_tree.specs.declared.expr.UnOp.{UnOp};
 ghost use Rattle.c_tree.specs.declared.expr.Expr.{Expr};
@@ -101,7 +102,7 @@ pub fn few_law()
 pub fn block_law()
     ensures locals { (scope : Scope) (name : Name) (t : CType) (initialised : Bool) (s : Tables) → IsFit s → few t ≡ true → Goes IsLocal s (blocks.declare_local scope name t initialised s) }
     ensures parameters { (scope : Scope) (name : Option Name) (t : CType) (first : Place) (s : Tables) → IsFit s → few t ≡ true → Goes Anything s (blocks.declare_parameter scope name t first s) }
-    ensures completed { (n : ℕ) (t : CType) (s : Tables) → IsFit s → few t ≡ true → Leads s (blocks.complete_local n t s) }
+    ensures completed { (n : ℕ) (t : CType) (s : Tables) → IsFit s → few t ≡ true → fits t ≡ true → Leads s (blocks.complete_local n t s) }
     ensures closed { (scope : Scope) (s : Tables) → IsFit s → Leads s (blocks.close_block scope s) }
     ensures lists { (outer : Scope) (s t : Tables) → Grows s t → IsFit t → Leads s (blocks.close_parameters (blocks.open_parameters outer s) t) }
 {}
