@@ -1,5 +1,5 @@
 -- Laws of what declarations keep.
-use Rattle.std.proofs.Common.{◌≡◌, ℕ, zero, suc, ◌||◌, ◌&&◌, Bool, true, false, not, cond, if◌then◌else◌, List, [], ◌∷◌, ◌++◌, map, length, take, slice_get, slice_set, position, bytes_eq, ap, ap₂, sym, ◌∙◌, subst, refl, Option, None, Some, true≢false}
+use Rattle.std.proofs.Common.{◌≡◌, ℕ, zero, suc, ◌||◌, ◌&&◌, Bool, true, false, not, cond, if◌then◌else◌, List, [], ◌∷◌, ◌++◌, map, length, take, drop, slice_get, slice_set, position, bytes_eq, ap, ap₂, sym, ◌∙◌, subst, refl, Option, None, Some, true≢false}
 use Rattle.std.specs.List.{list_all, list_any}
 use Rattle.std.proofs.lemmas.List.{map-append}
 use Rattle.std.proofs.lemmas.Slice.Eq.{bytes_eq-Decides}
@@ -164,13 +164,13 @@ sound_push names ns text new free h =
 -- ---- tables
 
 pub later_same : (s : Tables) → Later s s
-later_same s = record { externs = stands_same s.externs; sound = λ h. h; locals = λ h. h }
+later_same s = record { externs = stands_same s.externs; sound = λ h. h; locals = λ m h. h }
 
 pub later_trans : (s t u : Tables) → Later s t → Later t u → Later s u
 later_trans s t u f g = record {
     externs = λ n k h. let a = f.externs n k h in let b = g.externs n a.now a.there in record { now = b.now; there = b.there; later = later_then k a.now b.now a.later b.later };
     sound = λ h. g.sound (f.sound h);
-    locals = λ h. g.locals (f.locals h);
+    locals = λ m h. g.locals m (f.locals m h);
   }
 
 -- the same externs, and the same locals
@@ -178,7 +178,7 @@ pub later_beside : (s t : Tables) → s.externs ≡ t.externs → s.locals ≡ t
 later_beside s t e l w = record {
     externs = λ n k h. stands_same t.externs n k (ap (λ ks. slice_get ks n) (sym e) ∙ h);
     sound = λ h. subst (λ ks. AreSound t.names (names_of ks)) e (sound_wider s.names t.names (names_of s.externs) w h);
-    locals = λ h. subst (λ ls. all_fit ls ≡ true) l h;
+    locals = λ m h. subst (λ ls. all_fit (drop m ls) ≡ true) l h;
   }
 
 pub fit_push : (ls : List TLocal) (x : TLocal) → fits x.ctype ≡ true → all_fit ls ≡ true → all_fit (ls ++ x ∷ []) ≡ true
@@ -211,8 +211,29 @@ fit_take (suc n) (l ∷ ls) h = by (fits l.ctype) h
     by true g = fit_take n ls g
     by false g = g
 
+none_left : (m : ℕ) → all_fit (drop m []) ≡ true
+none_left zero = refl
+none_left (suc m) = refl
+
+push_from : (m : ℕ) (ls : List TLocal) (x : TLocal) → fits x.ctype ≡ true → all_fit (drop m ls) ≡ true → all_fit (drop m (ls ++ x ∷ [])) ≡ true
+push_from zero ls x f h = fit_push ls x f h
+push_from (suc m) [] x f h = none_left m
+push_from (suc m) (l ∷ ls) x f h = push_from m ls x f h
+
+set_from : (m : ℕ) (ls : List TLocal) (n : ℕ) (x : TLocal) → fits x.ctype ≡ true → all_fit (drop m ls) ≡ true → all_fit (drop m (slice_set ls n x)) ≡ true
+set_from zero ls n x f h = fit_set ls n x f h
+set_from (suc m) [] n x f h = refl
+set_from (suc m) (l ∷ ls) zero x f h = h
+set_from (suc m) (l ∷ ls) (suc n) x f h = set_from m ls n x f h
+
+take_from : (m n : ℕ) (ls : List TLocal) → all_fit (drop m ls) ≡ true → all_fit (drop m (take n ls)) ≡ true
+take_from zero n ls h = fit_take n ls h
+take_from (suc m) zero ls h = refl
+take_from (suc m) (suc n) [] h = refl
+take_from (suc m) (suc n) (l ∷ ls) h = take_from m n ls h
+
 -- other locals alone
-pub later_locals : (s : Tables) (ls : List TLocal) → (all_fit s.locals ≡ true → all_fit ls ≡ true) → Later s (record s { locals = ls })
+pub later_locals : (s : Tables) (ls : List TLocal) → ((m : ℕ) → all_fit (drop m s.locals) ≡ true → all_fit (drop m ls) ≡ true) → Later s (record s { locals = ls })
 later_locals s ls f = record { externs = stands_same s.externs; sound = λ h. h; locals = f }
 
 -- an extern in the place of another
@@ -220,7 +241,7 @@ pub later_set : (s : Tables) (n : ℕ) (k y : Known) → slice_get s.externs n �
 later_set s n k y is f = record {
     externs = stands_set s.externs n k y is f;
     sound = λ h. subst (AreSound s.names) (sym (names_set s.externs n k y is f.name)) h;
-    locals = λ h. h;
+    locals = λ m h. h;
   }
 
 -- an extern of a new name
@@ -228,7 +249,7 @@ pub later_new : (s : Tables) (k : Known) → place_of s.names k.name ≡ None �
 later_new s k new free = record {
     externs = stands_push s.externs k;
     sound = λ h. subst (AreSound (added s.names k.name)) (sym (map-append (λ (x : Known). x.name) s.externs (k ∷ []))) (sound_push s.names (names_of s.externs) k.name new free h);
-    locals = λ h. h;
+    locals = λ m h. h;
   }
 
 -- a name of file scope that is no function and no global
@@ -238,17 +259,17 @@ later_meaning s text m = later_beside s (with_meaning text m s) refl refl (added
 -- ---- locals
 
 pub later_local : (s : Tables) (x : TLocal) → fits x.ctype ≡ true → Later s (record s { locals = s.locals ++ x ∷ [] })
-later_local s x f = later_locals s (s.locals ++ x ∷ []) (fit_push s.locals x f)
+later_local s x f = later_locals s (s.locals ++ x ∷ []) (λ m h. push_from m s.locals x f h)
 
 pub later_named : (text : List ℕ) (t : CType) (s : Tables) → fits t ≡ true → Later s (with_named text t s)
-later_named text t s f = record { externs = stands_same s.externs; sound = λ h. h; locals = fit_push s.locals (record { name = text; ctype = t }) f }
+later_named text t s f = record { externs = stands_same s.externs; sound = λ h. h; locals = λ m h. push_from m s.locals (record { name = text; ctype = t }) f h }
 
 pub later_completed : (n : ℕ) (t : CType) (s : Tables) (l : TLocal) → fits t ≡ true → Later s (record s { locals = slice_set s.locals n (blocks.completed t l) })
-later_completed n t s l f = later_locals s (slice_set s.locals n (blocks.completed t l)) (fit_set s.locals n (blocks.completed t l) f)
+later_completed n t s l f = later_locals s (slice_set s.locals n (blocks.completed t l)) (λ m h. set_from m s.locals n (blocks.completed t l) f h)
 
 -- a parameter list that began at s
 pub later_closed : (outer : Scope) (s t : Tables) → Later s t → Later s (close_parameters (open_parameters outer s) t)
-later_closed outer s t h = record { externs = h.externs; sound = h.sound; locals = λ f. fit_take (length s.locals) t.locals (h.locals f) }
+later_closed outer s t h = record { externs = h.externs; sound = h.sound; locals = λ m f. take_from m (length s.locals) t.locals (h.locals m f) }
 
 -- ---- externs that are declared again, defined or completed
 

@@ -1,6 +1,6 @@
 -- What later declarations keep of those before them: of the functions and globals of a unit, and of the locals of the function at
 -- hand.
-use Rattle.std.specs.Prelude.{◌≡◌, ℕ, Bool, true, false, not, List, map, slice_get, bytes_eq, Option, Some}
+use Rattle.std.specs.Prelude.{◌≡◌, ℕ, Bool, true, false, not, List, map, drop, slice_get, bytes_eq, Option, Some}
 use Rattle.std.specs.List.{list_all, list_any}
 use Rattle.c_types.specs.Kind.{look}
 use Rattle.c_tree.specs.Conditions.{all_differ, is_twin}
@@ -37,8 +37,8 @@ pub record AreSound (names ns : List (List ℕ)) : Type 0 where
   pub free : list_all is_free ns ≡ true
   pub listed : list_all (is_listed names) ns ≡ true
 
--- from the tables s to the tables t
+-- from the tables s to the tables t; the locals from any one on stay such that none is too large
 pub record Later (s t : Tables) : Type 0 where
   pub externs : (n : ℕ) (k : Known) → slice_get s.externs n ≡ Some k → Stands k t.externs n
   pub sound : AreSound s.names (names_of s.externs) → AreSound t.names (names_of t.externs)
-  pub locals : all_fit s.locals ≡ true → all_fit t.locals ≡ true
+  pub locals : (from : ℕ) → all_fit (drop from s.locals) ≡ true → all_fit (drop from t.locals) ≡ true
