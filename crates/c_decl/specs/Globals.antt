@@ -1,5 +1,5 @@
 -- Declarations at file scope (C11 6.7, 6.9): typedefs, functions, and globals, those that are defined with their first bytes.
-use Rattle.std.specs.Prelude.{ℕ, Bool, true, false, cond, is_some, List, [], ◌∷◌, ◌++◌, Option, Some, None, Ok}
+use Rattle.std.specs.Prelude.{ℕ, Bool, true, false, cond, eqb, length, is_some, List, [], ◌∷◌, ◌++◌, Option, Some, None, Ok}
 use Rattle.cm_base.specs.declared.place.Place.{Place}
 use Rattle.c_ast.specs.declared.expr.Name.{Name}
 use Rattle.c_ast.specs.declared.expr.Spec.{Spec}
@@ -18,10 +18,10 @@ use Rattle.c_scope.specs.Steps.{Step, ◌>>>◌, refuse}
 use Rattle.c_check.specs.declared.around.Around.{Around}
 use Rattle.c_check.specs.Formed.{attributed}
 use Rattle.c_init.specs.Contents.{contents}
-use Rattle.c_init.specs.Initials.{initialised}
-use Rattle.c_decl.specs.declared.heading.Declared.{Declared}
-use Rattle.c_decl.specs.declared.heading.Heading.{Heading}
-use Rattle.c_decl.specs.Headings.{bare, declared, heading, is_typedef, linkage}
+use Rattle.c_init.specs.Initials.{initialise}
+use Rattle.c_decl.specs.declared.headings.Declared.{Declared}
+use Rattle.c_decl.specs.declared.headings.Heading.{Heading}
+use Rattle.c_decl.specs.Headings.{bare, declared_by, heading_of, is_typedef, linkage}
 
 abbrev pub at_file : Around
 at_file = record { scope = record { names = 0; tags = 0; locals = 0; is_file = true }; in_entry = false }
@@ -47,7 +47,7 @@ with_global name t noinit items made = made ++ global name t noinit items ∷ []
 abbrev pub global_value : ℕ → Name → CType → Bool → Bool → Option Initial → List TGlobal → Step (List TGlobal)
 global_value n name t is_extern noinit None made s = Ok (cond is_extern made (with_global name t noinit [] made), s)
 global_value n name t is_extern noinit (Some x) made s =
-    initialised t x name.place at_file s >>> (λ it u. Ok (with_global name it.ctype noinit it.items made, complete_object n it.ctype u))
+    initialise t x name.place at_file s >>> (λ it u. Ok (with_global name it.ctype noinit it.items made, complete_object n it.ctype u))
 
 abbrev pub global_made : Name → CType → Linkage → Bool → Option Initial → List TGlobal → Step (List TGlobal)
 global_made name t how noinit value made s = declare_object name t how (is_some value) s >>> (λ n u. global_value n name t how.is_extern noinit value made u)
@@ -64,15 +64,16 @@ file_declared h name d value made s =
     (object_declared h name d value made s))
 
 abbrev pub file_init : Heading → Init → List TGlobal → Step (List TGlobal)
-file_init h x made s = declared h x.declarator x.attrs at_file s >>> (λ d u. file_declared h x.declarator.name d x.value made u)
+file_init h x made s = declared_by h x.declarator x.attrs at_file s >>> (λ d u. file_declared h x.declarator.name d x.value made u)
 
 abbrev pub file_inits : Heading → List TGlobal → List Init → Step (List TGlobal)
 file_inits h made [] s = Ok (made, s)
 file_inits h made (x ∷ xs) s = file_init h x made s >>> (λ more u. file_inits h more xs u)
 
 abbrev pub globals_of : List Spec → List Init → List TGlobal → Step (List TGlobal)
-globals_of specs [] made s = bare true at_file specs s >>> (λ done u. Ok (made, u))
-globals_of specs (x ∷ xs) made s = heading true at_file specs s >>> (λ h u. file_inits h made (x ∷ xs) u)
+globals_of specs inits made s =
+    cond (eqb (length inits) 0) (bare true at_file specs s >>> (λ done u. Ok (made, u)))
+    (heading_of true at_file specs s >>> (λ h u. file_inits h made inits u))
 
 -- a declaration at file scope: the globals of the unit, those that it defines behind those before it
 abbrev pub file_declaration : Decl → List TGlobal → Step (List TGlobal)

@@ -38,17 +38,17 @@ use Rattle.c_check.specs.declared.formed.Formed.{Formed}
 use Rattle.c_check.specs.declared.specified.Specified.{Specified}
 use Rattle.c_check.specs.Specified.{base_of, start_of}
 use Rattle.c_check.specs.Typed.{forming, specifiers}
-use Rattle.c_decl.specs.declared.heading.Declared.{Declared}
-use Rattle.c_decl.specs.declared.heading.Heading.{Heading}
+use Rattle.c_decl.specs.declared.headings.Declared.{Declared}
+use Rattle.c_decl.specs.declared.headings.Heading.{Heading}
 
 -- ---- before the declarators
 
-abbrev pub heading_of : Specified → Checked Heading
-heading_of it = base_of it >>= (λ ty. Ok (record { base = ty; attributes = it.attributes; storage = it.words.storage; inline = it.words.inline }))
+abbrev pub as_heading : Specified → Checked Heading
+as_heading it = base_of it >>= (λ ty. Ok (record { base = ty; attributes = it.attributes; storage = it.words.storage; inline = it.words.inline }))
 
 -- the specifiers of a declaration; stored: a storage class and inline may stand among them
-abbrev pub heading : Bool → Around → List Spec → Step Heading
-heading stored around specs s = specifiers stored around specs s >>> (λ it u. keeping u (heading_of it))
+abbrev pub heading_of : Bool → Around → List Spec → Step Heading
+heading_of stored around specs s = specifiers stored around specs s >>> (λ it u. keeping u (as_heading it))
 
 abbrev pub is_typedef : Option Storage → Bool
 is_typedef (Some storage.Typedef) = true
@@ -80,8 +80,8 @@ abbrev pub declared_as : Heading → Place → List Attr → Formed → Checked 
 declared_as h place attrs f = declared_type h f place >>= (λ ty. attributes attrs f.attributes >>= (λ all. Ok (record { ctype = ty; attributes = all })))
 
 -- the type that a declarator gives, and all attributes of what it declares
-abbrev pub declared : Heading → Declarator → List Attr → Around → Step Declared
-declared h d attrs around s = forming d.form h.attributes around s >>> (λ f u. keeping u (declared_as h d.name.place attrs f))
+abbrev pub declared_by : Heading → Declarator → List Attr → Around → Step Declared
+declared_by h d attrs around s = forming d.form h.attributes around s >>> (λ f u. keeping u (declared_as h d.name.place attrs f))
 
 -- ---- a declaration without declarators
 

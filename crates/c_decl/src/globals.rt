@@ -4,11 +4,11 @@ ghost use Rattle.std.specs.Prelude.{◌≡◌, IfOk, option_copied};
 ghost use Rattle.c_scope.specs.Steps.{Leaves};
 ghost use Rattle.c_decl.specs.Globals as spec;
 
-use crate::heading::{Declared, Heading, bare, declared, heading, is_typedef, linkage};
+use crate::headings::{Declared, Heading, bare, declared_by, heading_of, is_typedef, linkage};
 use crate::locals::value_of;
 use c_ast::{Decl, Init, Initial, Name};
 use c_check::{Around, attributed};
-use c_init::{Initialised, contents, initialised};
+use c_init::{Initialised, contents, initialise};
 use c_rows::{TypeFault, at};
 use c_scope::{
     Linkage, Scope, Tables, complete_object, declare_function, declare_object, declare_typedef,
@@ -127,7 +127,7 @@ fn global_value(
             Ok(with_global(alloc, made, name, t, noinit, &[])?)
         }
         Some(x) => {
-            let it = initialised(alloc, x, tables, at_file(), t, name.place)?;
+            let it = initialise(alloc, x, tables, at_file(), t, name.place)?;
             let Initialised { ctype, items } = it;
             complete_object(alloc, tables, n, ctype.share(alloc)?)?;
             Ok(with_global(alloc, made, name, ctype, noinit, items.as_slice())?)
@@ -209,7 +209,7 @@ fn file_init(
 ) -> Result<List<TGlobal>, TypeFault>
     ensures { Leaves result tables.new (spec.file_init head.now x.now made tables.old) }
 {
-    let d = declared(alloc, &x.declarator, x.attrs.as_slice(), tables, at_file(), head)?;
+    let d = declared_by(alloc, &x.declarator, x.attrs.as_slice(), tables, at_file(), head)?;
     file_declared(alloc, value_of(x), tables, head, &x.declarator.name, d, made)
 }
 
@@ -245,10 +245,10 @@ pub fn file_declaration(
 {
     let specs = decl.specs.as_slice();
     let inits = decl.inits.as_slice();
-    if inits.is_empty() {
+    if inits.len() == 0 {
         bare(alloc, specs, tables, at_file(), true)?;
         return Ok(made);
     }
-    let head = heading(alloc, specs, tables, at_file(), true)?;
+    let head = heading_of(alloc, specs, tables, at_file(), true)?;
     file_inits(alloc, inits, tables, &head, made)
 }

@@ -2,9 +2,9 @@
 #![tactic(auto)]
 
 mod globals;
-mod heading;
+mod headings;
 mod locals;
 
 pub use globals::{at_file, file_declaration, function_declared};
-pub use heading::{Declared, Heading, declared, heading, is_typedef, linkage};
+pub use headings::{Declared, Heading, declared_by, heading_of, is_typedef, linkage};
 pub use locals::local_declaration;

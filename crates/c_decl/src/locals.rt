@@ -4,10 +4,10 @@ ghost use Rattle.std.specs.Prelude.{◌≡◌, [], option_copied};
 ghost use Rattle.c_scope.specs.Steps.{Leaves};
 ghost use Rattle.c_decl.specs.Locals as spec;
 
-use crate::heading::{Declared, Heading, bare, declared, heading};
+use crate::headings::{Declared, Heading, bare, declared_by, heading_of};
 use c_ast::{Decl, Init, Initial, Name};
 use c_check::{Around, attributed};
-use c_init::{Initialised, initialised};
+use c_init::{Initialised, initialise};
 use c_rows::{TypeFault, at};
 use c_scope::{Tables, complete_local, declare_local};
 use c_tree::{Item, Stmt};
@@ -38,7 +38,7 @@ fn local_value(
             },
         )?),
         Some(x) => {
-            let it = initialised(alloc, x, tables, around, t, place)?;
+            let it = initialise(alloc, x, tables, around, t, place)?;
             let Initialised { ctype, items } = it;
             complete_local(alloc, tables, n, ctype)?;
             Ok(Shared::new(alloc, Stmt::Declare { local: n, items })?)
@@ -89,7 +89,7 @@ fn local_init(
 ) -> Result<Shared<Stmt>, TypeFault>
     ensures { Leaves result tables.new (spec.local_init head.now x.now around tables.old) }
 {
-    let d = declared(alloc, &x.declarator, x.attrs.as_slice(), tables, around, head)?;
+    let d = declared_by(alloc, &x.declarator, x.attrs.as_slice(), tables, around, head)?;
     local_declared(alloc, value_of(x), tables, around, &x.declarator.name, d)
 }
 
@@ -135,10 +135,10 @@ pub fn local_declaration(
 {
     let specs = decl.specs.as_slice();
     let inits = decl.inits.as_slice();
-    if inits.is_empty() {
+    if inits.len() == 0 {
         bare(alloc, specs, tables, around, false)?;
         return Ok(List::new(alloc));
     }
-    let head = heading(alloc, specs, tables, around, false)?;
+    let head = heading_of(alloc, specs, tables, around, false)?;
     local_inits(alloc, inits, tables, around, &head)
 }

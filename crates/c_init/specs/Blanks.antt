@@ -38,10 +38,6 @@ unfoldable pub blank : ℕ → List StructInfo → Place → CType → ℕ → L
 blank zero structs place t at done = done
 blank (suc deep) structs place t at done = blank_as (blank deep structs place) t place at done (parts_of structs t)
 
--- no type of a source is deeper
-unfoldable pub deepest : ℕ
-deepest = 4294967295
-
--- the parts from the one of number i on
-abbrev pub rest_blank : List StructInfo → Parts → Place → ℕ → ℕ → List Item → List Item
-rest_blank structs ps place at i done = blank_from (blank deepest structs place) ps at i (count ps - i) done
+-- the parts from the one of number i on; no type of a source is deeper
+unfoldable pub rest_blank : List StructInfo → Parts → Place → ℕ → ℕ → List Item → List Item
+rest_blank structs ps place at i done = blank_from (blank 4294967295 structs place) ps at i (count ps - i) done

@@ -1,6 +1,6 @@
 -- Initialisers (C11 6.7.9): the elements that they set, in order of address, or the first fault. Braces nest as the type does. That
 -- the shape of an initialiser doesn't fit is told before anything inside of it.
-use Rattle.std.specs.Prelude.{ℕ, ◌+◌, Bool, not, ◌&&◌, cond, is_some, List, [], ◌∷◌, ◌++◌, map, length, slice_get, Option, Some, None, option_map, Result, Ok, Err}
+use Rattle.std.specs.Prelude.{ℕ, ◌+◌, Bool, not, ◌&&◌, cond, is_some, List, [], ◌∷◌, ◌++◌, length, Option, Some, None, Ok}
 use Rattle.cm_base.specs.declared.place.Place.{Place}
 use Rattle.c_ast.specs.declared.expr.Expr.{Expr as Tree}
 use Rattle.c_ast.specs.declared.stmt.Initial.{Initial}
@@ -29,7 +29,7 @@ use Rattle.c_init.specs.declared.parts.Parts.{Parts}
 use Rattle.c_init.specs.declared.parts.Parts.TheVariants.{Elements, Members}
 use Rattle.c_init.specs.declared.parts.Slot.{Slot}
 use Rattle.c_init.specs.Blanks.{rest_blank}
-use Rattle.c_init.specs.Parts.{count, part_at, parts_of}
+use Rattle.c_init.specs.Parts.{part_at, parts_of}
 use Rattle.c_init.specs.Strings.{char_kind, set_string, string_of}
 
 -- an initialiser: where it begins, and what it sets of an object of a type at an offset, behind the elements that are done
@@ -75,24 +75,17 @@ set_expression around e t at done (Some (Members slots)) s = set_struct around e
 
 abbrev pub set_part : Setting → Around → ℕ → List Item → Option Slot → Step (List Item)
 set_part x around at done (Some p) s = x.sets around p.ctype (add at p.offset) done s
-set_part x around at done None s = Ok (done, s)
+set_part x around at done None s = fault 28 x.place
 
--- the parts from the one of number i on, and then those that are left
+-- The parts from the one of number i on, and then those that are left. The first initialiser for which there is no part is a
+-- fault.
 abbrev pub set_parts : Parts → Place → Around → ℕ → ℕ → List Item → List Setting → Step (List Item)
 set_parts ps place around at i done [] s = Ok (rest_blank s.structs ps place at i done, s)
 set_parts ps place around at i done (x ∷ xs) s = set_part x around at done (part_at ps i) s >>> (λ more u. set_parts ps place around at (add i 1) more xs u)
 
--- the first initialiser for which there is no part is a fault
-abbrev pub unless_over : {A : Type 0} → Option Place → Checked A → Checked A
-unless_over (Some over) rest = fault 28 over
-unless_over None rest = rest
-
-abbrev pub place_over : Parts → List Setting → Option Place
-place_over ps xs = option_map (λ (x : Setting). x.place) (slice_get xs (count ps))
-
 abbrev pub set_braces : Place → List Setting → Around → ℕ → List Item → Option Parts → Step (List Item)
 set_braces place xs around at done None s = fault 28 place
-set_braces place xs around at done (Some ps) s = unless_over (place_over ps xs) (set_parts ps place around at 0 done xs s)
+set_braces place xs around at done (Some ps) s = set_parts ps place around at 0 done xs s
 
 -- ---- any initialiser
 
@@ -128,5 +121,5 @@ abbrev pub completed : CType → Initial → Place → Checked CType
 completed t x name = if_fits (with_length t x (look t)) name
 
 -- the type of an object, and the elements that its initialiser sets
-abbrev pub initialised : CType → Initial → Place → Around → Step Initialised
-initialised t x name around s = completed t x name >>= (λ u. sets x around u 0 [] s >>> (λ items v. Ok (record { ctype = u; items = items }, v)))
+abbrev pub initialise : CType → Initial → Place → Around → Step Initialised
+initialise t x name around s = completed t x name >>= (λ u. sets x around u 0 [] s >>> (λ items v. Ok (record { ctype = u; items = items }, v)))

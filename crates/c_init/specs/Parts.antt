@@ -1,5 +1,5 @@
 -- The parts of arrays and structs in order of address (C11 6.2.5, paragraph 20), as an initialiser names them.
-use Rattle.std.specs.Prelude.{ℕ, cond, List, [], map, length, slice_get, Option, Some, None}
+use Rattle.std.specs.Prelude.{ℕ, cond, ltb, List, [], map, length, slice_get, Option, Some, None}
 use Rattle.std.specs.Option.{unwrap_or}
 use Rattle.ns_types.specs.Operators.{multiply}
 use Rattle.c_types.specs.Kind.{Look, look}
@@ -40,7 +40,7 @@ abbrev pub count : Parts → ℕ
 count (Elements of size len) = len
 count (Members slots) = length slots
 
--- the part of this number
+-- the part of this number, where there are so many
 abbrev pub part_at : Parts → ℕ → Option Slot
-part_at (Elements of size len) i = Some (record { ctype = of; offset = multiply size i })
+part_at (Elements of size len) i = cond (ltb i len) (Some (record { ctype = of; offset = multiply size i })) None
 part_at (Members slots) i = slice_get slots i

@@ -33,6 +33,7 @@ pub fn constant_item(
 
 /// All scalars in an object of a type that begins so many bytes into the whole, each 0, behind the elements that are done.
 #[cycle(blanks)]
+#[tactic(auto, unfolding(crate::specs::Blanks::blank))]
 fn blank(
     alloc: Global,
     deep: u32,
@@ -67,7 +68,7 @@ fn with_zero(
     Ok(items)
 }
 
-/// The same for n parts from the one of number i on.
+/// The same for n parts from the one of number `first` on.
 #[cycle(blanks)]
 fn blank_from(
     alloc: Global,
@@ -76,14 +77,14 @@ fn blank_from(
     place: Place,
     parts: &Parts,
     at: u32,
-    i: u32,
+    first: u32,
     n: usize,
     items: List<Item>,
 ) -> Result<List<Item>, NoMemory>
-    ensures { IfOk result (λ r. r ≡ spec.blank_from (spec.blank deep structs.now place) parts.now at i n items) }
+    ensures { IfOk result (λ r. r ≡ spec.blank_from (spec.blank deep structs.now place) parts.now at first n items) }
 {
     let mut done = items;
-    let mut i = i;
+    let mut i = first;
     for _k in 0..n {
         let part = parts.part_at(alloc, i)?;
         done = blank_part(alloc, deep, structs, place, part, at, done)?;
@@ -114,6 +115,7 @@ fn blank_part(
 }
 
 /// The parts from the one of number i on.
+#[tactic(auto, unfolding(crate::specs::Blanks::rest_blank))]
 pub fn rest_blank(
     alloc: Global,
     structs: &[StructInfo],

@@ -10,7 +10,7 @@ ghost use Rattle.c_init.specs.Initials as spec;
 use crate::blanks::rest_blank;
 use crate::parts::{Parts, Slot, parts_of};
 use crate::strings::{char_kind, set_string, string_of};
-use c_ast::{Expr as Tree, Initial, first_place, initial_place};
+use c_ast::{Expr as Tree, Initial, first_place};
 use c_check::{Around, Operand, expr};
 use c_const::constant;
 use c_rows::{TypeFault, at, fitted};
@@ -137,13 +137,13 @@ fn set_expression(
     }
 }
 
-/// The place of the first initialiser for which there is no part.
-fn place_over(parts: &Parts, list: &[Initial]) -> Option<Place>
-    ensures { result ≡ spec.place_over parts.now (map spec.setting list.now) }
+/// The place of its first token.
+fn place_of(x: &Initial) -> Place
+    ensures { result ≡ (spec.setting x.now).place }
 {
-    match list.get(parts.count()) {
-        Some(over) => Some(initial_place(over)),
-        None => None,
+    match x {
+        Initial::Assign(e) => first_place(e),
+        Initial::Braces(place, _) => *place,
     }
 }
 
@@ -185,11 +185,8 @@ fn set_parts(
     from: u32,
     items: List<Item>,
 ) -> Result<List<Item>, TypeFault>
-    ensures { Leaves result tables.new (spec.set_braces place (map spec.setting list.now) around from items (Some parts.now) tables.old) }
+    ensures { Leaves result tables.new (spec.set_parts parts.now place around from 0 items (map spec.setting list.now) tables.old) }
 {
-    if let Some(over) = place_over(parts, list) {
-        return Err(at(28, over));
-    }
     let mut done = items;
     let mut i = 0u32;
     for x in list {
@@ -214,10 +211,10 @@ fn set_part(
 {
     match part {
         Some(slot) => {
-            let at = from.wrapping_add(slot.offset);
-            set(alloc, x, tables, around, &slot.ctype, at, items)
+            let here = from.wrapping_add(slot.offset);
+            set(alloc, x, tables, around, &slot.ctype, here, items)
         }
-        None => Ok(items),
+        None => Err(at(28, place_of(x))),
     }
 }
 
@@ -232,7 +229,7 @@ fn length_in(chars: bool, x: &Initial) -> Result<Option<u32>, TypeFault>
                 if !chars {
                     return Ok(None);
                 }
-                some_length(bytes.len().saturating_add(1))
+                some_length(bytes.len() + 1)
             }
             None => Ok(None),
         },
@@ -285,7 +282,7 @@ fn with_length(alloc: Global, t: CType, x: &Initial) -> Result<CType, TypeFault>
 /// Code 24 at `name`, the object's name, where the initialiser gives an array too great a length. Code 28 at the first token of an
 /// initialiser whose shape doesn't fit its type, or whose value isn't constant at file scope; code 29 there for a struct; code 22
 /// there where the value doesn't convert. The faults of the expressions in it.
-pub fn initialised(
+pub fn initialise(
     alloc: Global,
     x: &Initial,
     tables: &mut Tables,
@@ -293,7 +290,7 @@ pub fn initialised(
     t: CType,
     name: Place,
 ) -> Result<Initialised, TypeFault>
-    ensures { Leaves result tables.new (spec.initialised t x.now name around tables.old) }
+    ensures { Leaves result tables.new (spec.initialise t x.now name around tables.old) }
 {
     let ctype = completed(alloc, t, x, name)?;
     let items = set(alloc, x, tables, around, &ctype, 0, List::new(alloc))?;

@@ -2,11 +2,11 @@
 #![tactic(auto)]
 
 mod blanks;
-mod contents;
+mod first_bytes;
 mod initial;
 mod parts;
 mod strings;
 
-pub use contents::{blank_contents, contents};
-pub use initial::{Initialised, initialised};
+pub use first_bytes::contents;
+pub use initial::{Initialised, initialise};
 pub use parts::{Parts, Slot};

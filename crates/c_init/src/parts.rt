@@ -101,15 +101,20 @@ impl Parts {
         }
     }
 
-    /// The part of this number.
+    /// The part of this number, where there are so many.
     pub fn part_at(&self, alloc: Global, i: u32) -> Result<Option<Slot>, NoMemory>
         ensures { IfOk result (λ r. r ≡ spec.part_at self.now i) }
     {
         match self {
-            Parts::Elements { of, size, .. } => Ok(Some(Slot {
-                ctype: of.share(alloc)?,
-                offset: (*size).wrapping_mul(i),
-            })),
+            Parts::Elements { of, size, len } => {
+                if i >= *len {
+                    return Ok(None);
+                }
+                Ok(Some(Slot {
+                    ctype: of.share(alloc)?,
+                    offset: (*size).wrapping_mul(i),
+                }))
+            }
             Parts::Members(slots) => match slots.get(i as usize) {
                 Some(slot) => Ok(Some(Slot {
                     ctype: slot.ctype.share(alloc)?,

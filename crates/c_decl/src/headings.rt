@@ -34,8 +34,8 @@ pub struct Declared {
     pub attributes: Attributes,
 }
 
-fn heading_of(alloc: Global, it: Specified) -> Result<Heading, TypeFault>
-    ensures { Gives result (spec.heading_of it) }
+fn as_heading(alloc: Global, it: Specified) -> Result<Heading, TypeFault>
+    ensures { Gives result (spec.as_heading it) }
 {
     Ok(Heading {
         base: it.base(alloc)?,
@@ -46,17 +46,17 @@ fn heading_of(alloc: Global, it: Specified) -> Result<Heading, TypeFault>
 }
 
 /// The specifiers of a declaration that has declarators. `stored` tells whether a storage class and `inline` may stand among them.
-pub fn heading(
+pub fn heading_of(
     alloc: Global,
     specs: &[Spec],
     tables: &mut Tables,
     around: Around,
     stored: bool,
 ) -> Result<Heading, TypeFault>
-    ensures { Leaves result tables.new (spec.heading stored around specs.now tables.old) }
+    ensures { Leaves result tables.new (spec.heading_of stored around specs.now tables.old) }
 {
     let it = specifiers(alloc, specs, tables, around, stored)?;
-    heading_of(alloc, it)
+    as_heading(alloc, it)
 }
 
 pub fn is_typedef(storage: Option<Storage>) -> bool
@@ -138,7 +138,7 @@ fn declared_as(
 /// # Errors
 /// The faults of its parts, and those of the derived type at its name; code 27 at `inline` before what is no function; code 40 at
 /// the name of an attribute that isn't known.
-pub fn declared(
+pub fn declared_by(
     alloc: Global,
     d: &Declarator,
     attrs: &[Attr],
@@ -146,7 +146,7 @@ pub fn declared(
     around: Around,
     head: &Heading,
 ) -> Result<Declared, TypeFault>
-    ensures { Leaves result tables.new (spec.declared head.now d.now attrs.now around tables.old) }
+    ensures { Leaves result tables.new (spec.declared_by head.now d.now attrs.now around tables.old) }
 {
     let formed = form(alloc, &d.form, tables, around, head.attributes)?;
     declared_as(alloc, head, d.name.place, attrs, &formed)

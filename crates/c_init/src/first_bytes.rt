@@ -1,6 +1,6 @@
 //! The bytes that a global begins with.
 
-ghost use Rattle.std.specs.Prelude.{◌≡◌, ◌+◌, ◌<◌, ◌^◌, IfOk, [], replicate, length};
+ghost use Rattle.std.specs.Prelude.{◌≡◌, IfOk, replicate};
 ghost use Rattle.c_init.specs.Contents as spec;
 
 use crate::parts::bytes_of;
@@ -25,14 +25,14 @@ fn width(t: &CType) -> u32
 fn put(bytes: &mut Bytes, count: u32, at: u32, n: u32)
     ensures { bytes.new ≡ spec.put count at n bytes.old }
 {
-    let mut at = at as usize;
-    let mut n = n;
+    let mut here = at as usize;
+    let mut left = n;
     for _k in 0..count {
-        if at < bytes.len() {
-            bytes.set(at, (n % 256) as u8);
+        if here < bytes.len() {
+            bytes.set(here, (left % 256) as u8);
         }
-        at = at.saturating_add(1);
-        n /= 256;
+        here += 1;
+        left /= 256;
     }
 }
 
@@ -43,12 +43,12 @@ fn put_item(bytes: &mut Bytes, item: &Item)
     put(bytes, width(&item.value.get().ctype), item.offset, n);
 }
 
-/// The bytes of a global of a type without an initialiser, all 0.
-pub fn blank_contents(alloc: Global, t: &CType) -> Result<Bytes, NoMemory>
-    ensures { IfOk result (λ bytes. bytes ≡ spec.contents t.now []) }
+/// So many zero bytes.
+fn zeros(alloc: Global, n: u32) -> Result<Bytes, NoMemory>
+    ensures { IfOk result (λ bytes. bytes ≡ replicate n 0) }
 {
     let mut bytes = List::new(alloc);
-    for _i in 0..bytes_of(t) {
+    for _i in 0..n {
         bytes.push(0)?;
     }
     Ok(bytes)
@@ -58,7 +58,7 @@ pub fn blank_contents(alloc: Global, t: &CType) -> Result<Bytes, NoMemory>
 pub fn contents(alloc: Global, t: &CType, items: &[Item]) -> Result<Bytes, NoMemory>
     ensures { IfOk result (λ bytes. bytes ≡ spec.contents t.now items.now) }
 {
-    let mut bytes = blank_contents(alloc, t)?;
+    let mut bytes = zeros(alloc, bytes_of(t))?;
     for item in items {
         put_item(&mut bytes, item);
     }
