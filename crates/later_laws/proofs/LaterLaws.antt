@@ -1,5 +1,5 @@
 -- Laws of what declarations keep.
-use Rattle.std.proofs.Common.{◌≡◌, ℕ, zero, suc, ◌||◌, ◌&&◌, Bool, true, false, not, cond, if◌then◌else◌, List, [], ◌∷◌, ◌++◌, map, length, take, drop, slice_get, slice_set, position, bytes_eq, ap, ap₂, sym, ◌∙◌, subst, refl, Option, None, Some, true≢false}
+use Rattle.std.proofs.Common.{◌≡◌, ℕ, zero, suc, ◌||◌, ◌&&◌, Bool, true, false, not, cond, if◌then◌else◌, List, [], ◌∷◌, ◌++◌, map, length, take, drop, slice_get, slice_set, position, bytes_eq, ap, ap₂, sym, ◌∙◌, subst, refl, Option, None, Some, true≢false, arith}
 use Rattle.std.specs.List.{list_all, list_any}
 use Rattle.std.proofs.lemmas.List.{map-append}
 use Rattle.std.proofs.lemmas.Slice.Eq.{bytes_eq-Decides}
@@ -13,12 +13,13 @@ use Rattle.c_scope.specs.declared.tables.Known.{Known}
 use Rattle.c_scope.specs.declared.tables.Tables.{Tables}
 use Rattle.c_scope.specs.declared.tables.Linkage.{Linkage}
 use Rattle.c_scope.specs.declared.tables.Meaning.{Meaning}
+use Rattle.c_scope.specs.declared.tables.Meaning.TheVariants.{Extern, Constant, Null, Typedef, Intrinsic}
 use Rattle.c_scope.specs.declared.tables.Scope.{Scope}
 use Rattle.c_scope.specs.Blocks as blocks
 use Rattle.c_scope.specs.Blocks.{close_parameters, open_parameters, with_named}
 use Rattle.c_scope.specs.FileScope.{completed, is_unsized, together, with_body, with_known, with_meaning, with_state}
 use Rattle.c_scope.specs.Index.{added, place_of}
-use Rattle.later_laws.specs.Later.{AreSound, IsLater, Later, Stands, is_free, is_listed, names_of}
+use Rattle.later_laws.specs.Later.{AreSound, IsLater, Keyed, Later, Stands, is_free, is_listed, names_of}
 
 no : {A : Type 0} → false ≡ true → A
 no h = absurd (true≢false (sym h))
@@ -66,10 +67,6 @@ same_name a = (bytes_eq-Decides a a).1 refl
 one_name : (a b : List ℕ) → bytes_eq a b ≡ true → a ≡ b
 one_name a b h = (bytes_eq-Decides a b).0 h
 
--- whoever is listed stays so
-abbrev pub Wider : List (List ℕ) → List (List ℕ) → Type 0
-Wider names more = (name : List ℕ) → is_listed names name ≡ true → is_listed more name ≡ true
-
 any_first : (p : List ℕ → Bool) (xs ys : List (List ℕ)) → list_any p xs ≡ true → list_any p (xs ++ ys) ≡ true
 any_first p [] ys h = no h
 any_first p (x ∷ xs) ys h = by (p x) h
@@ -86,30 +83,40 @@ any_last p (x ∷ xs) y h = by (p x)
     by true = refl
     by false = any_last p xs y h
 
-pub added_wider : (names : List (List ℕ)) (text : List ℕ) → Wider names (added names text)
-added_wider names text name h = by (list_any (λ x. bytes_eq text x) names)
+-- whoever is listed stays so
+listed_push : (names ns : List (List ℕ)) (text : List ℕ) → list_all (is_listed names) ns ≡ true → list_all (is_listed (names ++ text ∷ [])) ns ≡ true
+listed_push names [] text g = refl
+listed_push names (x ∷ xs) text g = by (is_listed names x) refl g
   where
-    by : (b : Bool) → is_listed (if b then names else (names ++ text ∷ [])) name ≡ true
-    by true = h
-    by false = any_first (bytes_eq name) names (text ∷ []) h
+    by : (b : Bool) → is_listed names x ≡ b → (b && list_all (is_listed names) xs) ≡ true → (is_listed (names ++ text ∷ []) x && list_all (is_listed (names ++ text ∷ [])) xs) ≡ true
+    by true is g = ap₂ (λ b c. b && c) (any_first (bytes_eq x) names (text ∷ []) is) (listed_push names xs text g)
+    by false is g = no g
 
-added_has : (names : List (List ℕ)) (text : List ℕ) → is_listed (added names text) text ≡ true
-added_has names text = by (list_any (λ x. bytes_eq text x) names) refl
-  where
-    by : (b : Bool) → list_any (λ x. bytes_eq text x) names ≡ b → is_listed (if b then names else (names ++ text ∷ [])) text ≡ true
-    by true is = is
-    by false is = any_last (bytes_eq text) names text (same_name text)
+get_last : {X : Type 0} (xs : List X) (x : X) (i : ℕ) → i ≡ length xs → slice_get (xs ++ x ∷ []) i ≡ Some x
+get_last [] x zero h = refl
+get_last [] x (suc i) h = absurd (omega (arith, h))
+get_last (y ∷ ys) x zero h = absurd (omega (arith, h))
+get_last (y ∷ ys) x (suc i) h = get_last ys x i (omega (arith, h))
 
-pub sound_wider : (names more ns : List (List ℕ)) → Wider names more → AreSound names ns → AreSound more ns
-sound_wider names more ns w h = record { differ = h.differ; free = h.free; listed = all ns h.listed }
+get_first : {X : Type 0} (xs : List X) (x y : X) (i : ℕ) → slice_get xs i ≡ Some y → slice_get (xs ++ x ∷ []) i ≡ Some y
+get_first [] x y i h = cc
+get_first (z ∷ zs) x y zero h = h
+get_first (z ∷ zs) x y (suc i) h = get_first zs x y i h
+
+-- what stands in a longer list stood there before, or is the last
+data Placed {X : Type 0} (xs : List X) (x y : X) (i : ℕ) : Type 0 where
+  before : slice_get xs i ≡ Some y → Placed xs x y i
+  last : i ≡ length xs → x ≡ y → Placed xs x y i
+
+placed_in : {X : Type 0} (xs : List X) (x y : X) (i : ℕ) → slice_get (xs ++ x ∷ []) i ≡ Some y → Placed xs x y i
+placed_in [] x y zero h = last refl cc
+placed_in [] x y (suc i) h = cc
+placed_in (z ∷ zs) x y zero h = before h
+placed_in (z ∷ zs) x y (suc i) h = by (placed_in zs x y i h)
   where
-    all : (xs : List (List ℕ)) → list_all (is_listed names) xs ≡ true → list_all (is_listed more) xs ≡ true
-    all [] g = refl
-    all (x ∷ xs) g = by (is_listed names x) refl g
-      where
-        by : (b : Bool) → is_listed names x ≡ b → (b && list_all (is_listed names) xs) ≡ true → (is_listed more x && list_all (is_listed more) xs) ≡ true
-        by true is g = ap₂ (λ b c. b && c) (w x is) (all xs g)
-        by false is g = no g
+    by : Placed zs x y i → Placed (z ∷ zs) x y (suc i)
+    by (before g) = before g
+    by (last e g) = last (ap suc e) g
 
 -- ---- a new name
 
@@ -152,14 +159,17 @@ all_last p (n ∷ ns) text h k = by (p n) h
     by true g = all_last p ns text g k
     by false g = g
 
-pub sound_push : (names ns : List (List ℕ)) (text : List ℕ) → place_of names text ≡ None → is_twin text ≡ false → AreSound names ns → AreSound (added names text) (ns ++ text ∷ [])
-sound_push names ns text new free h =
-    let wide = sound_wider names (added names text) ns (added_wider names text) h in
-    record {
-      differ = differ_push ns text h.differ (is_new names ns text (no_place names text new) h.listed);
-      free = all_last is_free ns text h.free (ap not free);
-      listed = all_last (is_listed (added names text)) ns text wide.listed (added_has names text);
-    }
+-- a new name is added at the end
+added_new : (names : List (List ℕ)) (text : List ℕ) → place_of names text ≡ None → added names text ≡ names ++ text ∷ []
+added_new names text h = by (list_any (λ x. bytes_eq text x) names) (no_place names text h)
+  where
+    by : (b : Bool) → b ≡ false → (if b then names else (names ++ text ∷ [])) ≡ names ++ text ∷ []
+    by true g = absurd (true≢false g)
+    by false g = refl
+
+length_last : {X : Type 0} (xs : List X) (x : X) → length (xs ++ x ∷ []) ≡ suc (length xs)
+length_last [] x = refl
+length_last (y ∷ ys) x = ap suc (length_last ys x)
 
 -- ---- tables
 
@@ -173,12 +183,18 @@ later_trans s t u f g = record {
     locals = λ m h. g.locals m (f.locals m h);
   }
 
--- the same externs, and the same locals
-pub later_beside : (s t : Tables) → s.externs ≡ t.externs → s.locals ≡ t.locals → Wider s.names t.names → Later s t
-later_beside s t e l w = record {
-    externs = λ n k h. stands_same t.externs n k (ap (λ ks. slice_get ks n) (sym e) ∙ h);
-    sound = λ h. subst (λ ks. AreSound t.names (names_of ks)) e (sound_wider s.names t.names (names_of s.externs) w h);
-    locals = λ m h. subst (λ ls. all_fit (drop m ls) ≡ true) l h;
+-- the same names with the same meanings, the same externs, and the same locals
+pub later_beside : (s t : Tables) → s.externs ≡ t.externs → s.locals ≡ t.locals → s.names ≡ t.names → s.meanings ≡ t.meanings → Later s t
+later_beside s t e l n m = record {
+    externs = λ i k h. stands_same t.externs i k (ap (λ ks. slice_get ks i) (sym e) ∙ h);
+    sound = λ h. record {
+      aligned = sym (ap (λ (xs : List (List ℕ)). length xs) n) ∙ (h.aligned ∙ ap (λ (xs : List Meaning). length xs) m);
+      keyed = λ i j g. let k = h.keyed i j (ap (λ ms. slice_get ms i) m ∙ g) in record { known = k.known; there = ap (λ ks. slice_get ks j) (sym e) ∙ k.there; name = ap (λ ns. slice_get ns i) (sym n) ∙ k.name };
+      differ = subst (λ ks. all_differ (names_of ks) ≡ true) e h.differ;
+      free = subst (λ ks. list_all is_free (names_of ks) ≡ true) e h.free;
+      listed = subst (λ ks. list_all (is_listed t.names) (names_of ks) ≡ true) e (subst (λ ns. list_all (is_listed ns) (names_of s.externs) ≡ true) n h.listed);
+    };
+    locals = λ i h. subst (λ ls. all_fit (drop i ls) ≡ true) l h;
   }
 
 pub fit_push : (ls : List TLocal) (x : TLocal) → fits x.ctype ≡ true → all_fit ls ≡ true → all_fit (ls ++ x ∷ []) ≡ true
@@ -232,29 +248,87 @@ take_from (suc m) zero ls h = refl
 take_from (suc m) (suc n) [] h = refl
 take_from (suc m) (suc n) (l ∷ ls) h = take_from m n ls h
 
+sound_locals : (s : Tables) (ls : List TLocal) → AreSound s → AreSound (record s { locals = ls })
+sound_locals s ls h = record { aligned = h.aligned; keyed = λ i n g. let k = h.keyed i n g in record { known = k.known; there = k.there; name = k.name }; differ = h.differ; free = h.free; listed = h.listed }
+
 -- other locals alone
 pub later_locals : (s : Tables) (ls : List TLocal) → ((m : ℕ) → all_fit (drop m s.locals) ≡ true → all_fit (drop m ls) ≡ true) → Later s (record s { locals = ls })
-later_locals s ls f = record { externs = stands_same s.externs; sound = λ h. h; locals = f }
+later_locals s ls f = record { externs = stands_same s.externs; sound = sound_locals s ls; locals = f }
 
 -- an extern in the place of another
 pub later_set : (s : Tables) (n : ℕ) (k y : Known) → slice_get s.externs n ≡ Some k → IsLater k y → Later s (record s { externs = slice_set s.externs n y })
 later_set s n k y is f = record {
     externs = stands_set s.externs n k y is f;
-    sound = λ h. subst (AreSound s.names) (sym (names_set s.externs n k y is f.name)) h;
+    sound = λ h.
+      let e = names_set s.externs n k y is f.name in
+      record {
+        aligned = h.aligned;
+        keyed = λ i j g. let x = h.keyed i j g in let z = stands_set s.externs n k y is f j x.known x.there in record { known = z.now; there = z.there; name = x.name ∙ ap Some (sym z.later.name) };
+        differ = subst (λ ns. all_differ ns ≡ true) (sym e) h.differ;
+        free = subst (λ ns. list_all is_free ns ≡ true) (sym e) h.free;
+        listed = subst (λ ns. list_all (is_listed s.names) ns ≡ true) (sym e) h.listed;
+      };
     locals = λ m h. h;
   }
+
+abbrev pub not_extern : Meaning → Bool
+not_extern (Extern n) = false
+not_extern (Constant n) = true
+not_extern Null = true
+not_extern (Typedef t) = true
+not_extern (Intrinsic i) = true
+
+no_extern : {A : Type 0} (m : Meaning) (n : ℕ) → not_extern m ≡ true → m ≡ Extern n → A
+no_extern m n h e = no (sym (ap not_extern e) ∙ h)
+
+-- a new name of file scope that is no function and no global
+pub later_meaning : (s : Tables) (text : List ℕ) (m : Meaning) → place_of s.names text ≡ None → not_extern m ≡ true → Later s (with_meaning text m s)
+later_meaning s text m new plain = record {
+    externs = stands_same s.externs;
+    sound = λ h. record {
+      aligned = ap (λ (xs : List (List ℕ)). length xs) (added_new s.names text new) ∙ (length_last s.names text ∙ (ap suc h.aligned ∙ sym (length_last s.meanings m)));
+      keyed = λ i n g. keyed h i n (placed_in s.meanings m (Extern n) i g);
+      differ = h.differ;
+      free = h.free;
+      listed = subst (λ ns. list_all (is_listed ns) (names_of s.externs) ≡ true) (sym (added_new s.names text new)) (listed_push s.names (names_of s.externs) text h.listed);
+    };
+    locals = λ i h. h;
+  }
+  where
+    keyed : AreSound s → (i n : ℕ) → Placed s.meanings m (Extern n) i → Keyed (with_meaning text m s) i n
+    keyed h i n (before g) = let k = h.keyed i n g in record { known = k.known; there = k.there; name = ap (λ ns. slice_get ns i) (added_new s.names text new) ∙ get_first s.names text k.known.name i k.name }
+    keyed h i n (last e g) = no_extern m n plain g
 
 -- an extern of a new name
 pub later_new : (s : Tables) (k : Known) → place_of s.names k.name ≡ None → is_twin k.name ≡ false → Later s (with_known k s)
 later_new s k new free = record {
     externs = stands_push s.externs k;
-    sound = λ h. subst (AreSound (added s.names k.name)) (sym (map-append (λ (x : Known). x.name) s.externs (k ∷ []))) (sound_push s.names (names_of s.externs) k.name new free h);
-    locals = λ m h. h;
+    sound = λ h. sound h;
+    locals = λ i h. h;
   }
+  where
+    e : names_of (s.externs ++ k ∷ []) ≡ names_of s.externs ++ k.name ∷ []
+    e = map-append (λ (x : Known). x.name) s.externs (k ∷ [])
 
--- a name of file scope that is no function and no global
-pub later_meaning : (s : Tables) (text : List ℕ) (m : Meaning) → Later s (with_meaning text m s)
-later_meaning s text m = later_beside s (with_meaning text m s) refl refl (added_wider s.names text)
+    keyed : AreSound s → (i n : ℕ) → Placed s.meanings (Extern (length s.externs)) (Extern n) i → Keyed (with_known k s) i n
+    keyed h i n (before g) = let x = h.keyed i n g in record { known = x.known; there = get_first s.externs k x.known n x.there; name = ap (λ ns. slice_get ns i) (added_new s.names k.name new) ∙ get_first s.names k.name x.known.name i x.name }
+    keyed h i n (last at g) = record { known = k; there = get_last s.externs k n (same_number g); name = ap (λ ns. slice_get ns i) (added_new s.names k.name new) ∙ get_last s.names k.name i (at ∙ sym h.aligned) }
+      where
+        number : Meaning → ℕ
+        number (Extern m) = m
+        number _ = 0
+
+        same_number : Extern (length s.externs) ≡ Extern n → n ≡ length s.externs
+        same_number q = sym (ap number q)
+
+    sound : AreSound s → AreSound (with_known k s)
+    sound h = record {
+        aligned = ap (λ (xs : List (List ℕ)). length xs) (added_new s.names k.name new) ∙ (length_last s.names k.name ∙ (ap suc h.aligned ∙ sym (length_last s.meanings (Extern (length s.externs)))));
+        keyed = λ i n g. keyed h i n (placed_in s.meanings (Extern (length s.externs)) (Extern n) i g);
+        differ = subst (λ ns. all_differ ns ≡ true) (sym e) (differ_push (names_of s.externs) k.name h.differ (is_new s.names (names_of s.externs) k.name (no_place s.names k.name new) h.listed));
+        free = subst (λ ns. list_all is_free ns ≡ true) (sym e) (all_last is_free (names_of s.externs) k.name h.free (ap not free));
+        listed = subst (λ ns. list_all (is_listed (added s.names k.name)) ns ≡ true) (sym e) (subst (λ names. list_all (is_listed names) (names_of s.externs ++ k.name ∷ []) ≡ true) (sym (added_new s.names k.name new)) (all_last (is_listed (s.names ++ k.name ∷ [])) (names_of s.externs) k.name (listed_push s.names (names_of s.externs) k.name h.listed) (any_last (bytes_eq k.name) s.names k.name (same_name k.name))));
+      }
 
 -- ---- locals
 
@@ -262,14 +336,14 @@ pub later_local : (s : Tables) (x : TLocal) → fits x.ctype ≡ true → Later 
 later_local s x f = later_locals s (s.locals ++ x ∷ []) (λ m h. push_from m s.locals x f h)
 
 pub later_named : (text : List ℕ) (t : CType) (s : Tables) → fits t ≡ true → Later s (with_named text t s)
-later_named text t s f = record { externs = stands_same s.externs; sound = λ h. h; locals = λ m h. push_from m s.locals (record { name = text; ctype = t }) f h }
+later_named text t s f = record { externs = stands_same s.externs; sound = λ h. record { aligned = h.aligned; keyed = λ i n g. let k = h.keyed i n g in record { known = k.known; there = k.there; name = k.name }; differ = h.differ; free = h.free; listed = h.listed }; locals = λ m h. push_from m s.locals (record { name = text; ctype = t }) f h }
 
 pub later_completed : (n : ℕ) (t : CType) (s : Tables) (l : TLocal) → fits t ≡ true → Later s (record s { locals = slice_set s.locals n (blocks.completed t l) })
 later_completed n t s l f = later_locals s (slice_set s.locals n (blocks.completed t l)) (λ m h. set_from m s.locals n (blocks.completed t l) f h)
 
 -- a parameter list that began at s
 pub later_closed : (outer : Scope) (s t : Tables) → Later s t → Later s (close_parameters (open_parameters outer s) t)
-later_closed outer s t h = record { externs = h.externs; sound = h.sound; locals = λ m f. take_from m (length s.locals) t.locals (h.locals m f) }
+later_closed outer s t h = record { externs = h.externs; sound = λ a. let b = h.sound a in record { aligned = b.aligned; keyed = λ i n g. let k = b.keyed i n g in record { known = k.known; there = k.there; name = k.name }; differ = b.differ; free = b.free; listed = b.listed }; locals = λ m f. take_from m (length s.locals) t.locals (h.locals m f) }
 
 -- ---- externs that are declared again, defined or completed
 

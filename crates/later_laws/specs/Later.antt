@@ -1,11 +1,12 @@
 -- What later declarations keep of those before them: of the functions and globals of a unit, and of the locals of the function at
 -- hand.
-use Rattle.std.specs.Prelude.{◌≡◌, ℕ, Bool, true, false, not, List, map, drop, slice_get, bytes_eq, Option, Some}
+use Rattle.std.specs.Prelude.{◌≡◌, ℕ, Bool, true, false, not, List, map, length, drop, slice_get, bytes_eq, Option, Some}
 use Rattle.std.specs.List.{list_all, list_any}
 use Rattle.c_types.specs.Kind.{look}
 use Rattle.c_tree.specs.Conditions.{all_differ, is_twin}
 use Rattle.c_tree.specs.Slots.{all_fit}
 use Rattle.c_scope.specs.declared.tables.Known.{Known}
+use Rattle.c_scope.specs.declared.tables.Meaning.TheVariants.{Extern}
 use Rattle.c_scope.specs.declared.tables.Tables.{Tables}
 use Rattle.c_scope.specs.FileScope.{is_unsized}
 
@@ -31,14 +32,23 @@ is_listed names name = list_any (bytes_eq name) names
 abbrev pub is_free : List ℕ → Bool
 is_free name = not (is_twin name)
 
--- the names of externs differ, are none of those that the tools reserve, and stand among the names of file scope
-pub record AreSound (names ns : List (List ℕ)) : Type 0 where
-  pub differ : all_differ ns ≡ true
-  pub free : list_all is_free ns ≡ true
-  pub listed : list_all (is_listed names) ns ≡ true
+-- the extern of this number, whose name stands in this place among the names of file scope
+pub record Keyed (s : Tables) (i n : ℕ) : Type 0 where
+  pub known : Known
+  pub there : slice_get s.externs n ≡ Some known
+  pub name : slice_get s.names i ≡ Some known.name
 
--- from the tables s to the tables t; the locals from any one on stay such that none is too large
+-- Each name of file scope has a meaning. The names of externs stand among them, where they mean these; they differ, and none is
+-- one of those that the tools reserve.
+pub record AreSound (s : Tables) : Type 0 where
+  pub aligned : length s.names ≡ length s.meanings
+  pub keyed : (i n : ℕ) → slice_get s.meanings i ≡ Some (Extern n) → Keyed s i n
+  pub differ : all_differ (names_of s.externs) ≡ true
+  pub free : list_all is_free (names_of s.externs) ≡ true
+  pub listed : list_all (is_listed s.names) (names_of s.externs) ≡ true
+
+-- From the tables s to the tables t. The locals from any one on stay such that none is too large.
 pub record Later (s t : Tables) : Type 0 where
   pub externs : (n : ℕ) (k : Known) → slice_get s.externs n ≡ Some k → Stands k t.externs n
-  pub sound : AreSound s.names (names_of s.externs) → AreSound t.names (names_of t.externs)
+  pub sound : AreSound s → AreSound t
   pub locals : (from : ℕ) → all_fit (drop from s.locals) ≡ true → all_fit (drop from t.locals) ≡ true

@@ -36,7 +36,7 @@ use Rattle.c_scope.specs.Tags.{begin_enum, begin_struct, begun_again, begun_as, 
 use Rattle.c_scope.specs.FileScope.{clashes, clashes_as, clashes_at, clashes_with, complete_object, completed, completed_as, declare_constant, declare_function, declare_object, declare_typedef, declared, declared_again, declared_as, declared_at, define_function, defined_as, first_known, is_unsized, together, with_body, with_known, with_meaning, with_state}
 use Rattle.c_tree.specs.Conditions.{is_twin}
 use Rattle.later_laws.specs.Later.{IsLater}
-use Rattle.later_laws.proofs.LaterLaws.{Wider, added_wider, later_beside, later_body, later_closed, later_completed, later_local, later_named, later_new, later_object, later_set, later_together}
+use Rattle.later_laws.proofs.LaterLaws.{later_beside, later_body, later_closed, later_completed, later_local, later_meaning, later_named, later_new, later_object, later_set, later_together, not_extern}
 use Rattle.range_laws.specs.Ranges.{Grows, NamesWithin, extern_of, externs_of, names}
 use Rattle.range_laws.specs.Few.{IsFit, few, meaning_few, members_few}
 use Rattle.range_laws.specs.Steps.{Answers, Anything, Came, Goes, HasFew, IsLocal, IsObjectAt, Leads, TypeIsFew}
@@ -96,8 +96,8 @@ kept_object : (k y : Known) → is_function k.ctype ≡ false → is_function y.
 kept_object k y f g = record { objects = λ h. ap not g; functions = λ many h. clash (is_function k.ctype) (no_object many (look k.ctype) h) f }
 
 -- tables with the same functions and globals, and the same locals
-grows_beside : (s t : Tables) → s.externs ≡ t.externs → s.locals ≡ t.locals → Wider s.names t.names → Grows s t
-grows_beside s t e l w = record { later = later_beside s t e l w; externs = subst (λ xs. NamesWithin (names s) (names_of_unit (map extern_of xs))) e (names_same (names s)); locals = subst (λ xs. length s.locals ≤ length xs) l (le_refl (length s.locals)) }
+grows_beside : (s t : Tables) → s.externs ≡ t.externs → s.locals ≡ t.locals → s.names ≡ t.names → s.meanings ≡ t.meanings → Grows s t
+grows_beside s t e l n m = record { later = later_beside s t e l n m; externs = subst (λ xs. NamesWithin (names s) (names_of_unit (map extern_of xs))) e (names_same (names s)); locals = subst (λ xs. length s.locals ≤ length xs) l (le_refl (length s.locals)) }
 
 -- ---- blocks and parameter lists
 
@@ -169,7 +169,7 @@ complete_local_law n t s fit f room = completed_by n t s (slice_get s.locals n) 
 
 pub close_block_law : (scope : Scope) (s : Tables) → IsFit s → Leads s (close_block scope s)
 close_block_law scope s fit = record {
-    grows = record { later = later_beside s (close_block scope s) refl refl (λ name h. h); externs = names_same (names s); locals = le_refl (length s.locals) };
+    grows = record { later = later_beside s (close_block scope s) refl refl refl refl; externs = names_same (names s); locals = le_refl (length s.locals) };
     fit = record { meanings = fit.meanings; locals = fit.locals; structs = fit.structs; externs = fit.externs };
   }
 
@@ -186,21 +186,21 @@ pub tag_leads : (scope : Scope) (text : List ℕ) (tag : Tag) (s : Tables) → I
 tag_leads scope text tag s fit = by scope.is_file
   where
     by : (b : Bool) → Leads s (cond b (with_file_tag text tag s) (with_block_tag text tag s))
-    by true = record { grows = grows_beside s (with_file_tag text tag s) refl refl (λ name h. h); fit = record { meanings = fit.meanings; locals = fit.locals; structs = fit.structs; externs = fit.externs } }
-    by false = record { grows = grows_beside s (with_block_tag text tag s) refl refl (λ name h. h); fit = record { meanings = fit.meanings; locals = fit.locals; structs = fit.structs; externs = fit.externs } }
+    by true = record { grows = grows_beside s (with_file_tag text tag s) refl refl refl refl; fit = record { meanings = fit.meanings; locals = fit.locals; structs = fit.structs; externs = fit.externs } }
+    by false = record { grows = grows_beside s (with_block_tag text tag s) refl refl refl refl; fit = record { meanings = fit.meanings; locals = fit.locals; structs = fit.structs; externs = fit.externs } }
 
 abbrev struct_few : StructInfo → Bool
 struct_few i = members_few i.members
 
 struct_leads : (i : StructInfo) (s : Tables) → IsFit s → members_few i.members ≡ true → Leads s (with_struct i s)
 struct_leads i s fit f = record {
-    grows = grows_beside s (with_struct i s) refl refl (λ name h. h);
+    grows = grows_beside s (with_struct i s) refl refl refl refl;
     fit = record { meanings = fit.meanings; locals = fit.locals; structs = all_push struct_few s.structs i fit.structs f; externs = fit.externs };
   }
 
 set_leads : (n : ℕ) (i : StructInfo) (s : Tables) → IsFit s → members_few i.members ≡ true → Leads s (record s { structs = slice_set s.structs n i })
 set_leads n i s fit f = record {
-    grows = grows_beside s (record s { structs = slice_set s.structs n i }) refl refl (λ name h. h);
+    grows = grows_beside s (record s { structs = slice_set s.structs n i }) refl refl refl refl;
     fit = record { meanings = fit.meanings; locals = fit.locals; structs = all_set struct_few s.structs n i fit.structs f; externs = fit.externs };
   }
 
@@ -244,7 +244,7 @@ begun_by name None s fit =
     let i : StructInfo = unknown name.text true in
     let one = struct_leads i s fit refl in
     came_by s (with_file_tag name.text (Struct (length s.structs)) (with_struct i s)) (length s.structs)
-    (record { grows = grows_beside s (with_file_tag name.text (Struct (length s.structs)) (with_struct i s)) refl refl (λ name h. h); fit = record { meanings = one.fit.meanings; locals = one.fit.locals; structs = one.fit.structs; externs = one.fit.externs } }) tt
+    (record { grows = grows_beside s (with_file_tag name.text (Struct (length s.structs)) (with_struct i s)) refl refl refl refl; fit = record { meanings = one.fit.meanings; locals = one.fit.locals; structs = one.fit.structs; externs = one.fit.externs } }) tt
 
 pub begin_struct_law : (tag : Option Name) (s : Tables) → IsFit s → Goes Anything s (begin_struct tag s)
 begin_struct_law (Some name) s fit = begun_by name (file_tag s name.text) s fit
@@ -260,7 +260,7 @@ end_struct_law n l place s fit f = goes_unless s _ 24 place _ (λ a. ended_by n 
 
 pub begin_enum_law : (tag : Option Name) (s : Tables) → IsFit s → Goes Anything s (begin_enum tag s)
 begin_enum_law (Some name) s fit = goes_unless s (is_some (file_tag s name.text)) 21 name.place _ (λ a.
-    came_by s (with_file_tag name.text Enum s) tt (record { grows = grows_beside s (with_file_tag name.text Enum s) refl refl (λ name h. h); fit = record { meanings = fit.meanings; locals = fit.locals; structs = fit.structs; externs = fit.externs } }) tt)
+    came_by s (with_file_tag name.text Enum s) tt (record { grows = grows_beside s (with_file_tag name.text Enum s) refl refl refl refl; fit = record { meanings = fit.meanings; locals = fit.locals; structs = fit.structs; externs = fit.externs } }) tt)
 begin_enum_law None s fit = stays s tt fit tt
 
 -- ---- members
@@ -277,9 +277,13 @@ added_law name t l f h =
 
 -- ---- file scope
 
-meaning_leads : (text : List ℕ) (m : Meaning) (s : Tables) → IsFit s → meaning_few m ≡ true → Leads s (with_meaning text m s)
-meaning_leads text m s fit f = record {
-    grows = grows_beside s (with_meaning text m s) refl refl (added_wider s.names text);
+none_there : {X : Type 0} (o : Option X) → is_some o ≡ false → o ≡ None
+none_there None h = refl
+none_there (Some x) h = no (sym h)
+
+pub meaning_leads : (text : List ℕ) (m : Meaning) (s : Tables) → IsFit s → meaning_few m ≡ true → is_some (place_of s.names text) ≡ false → not_extern m ≡ true → Leads s (with_meaning text m s)
+meaning_leads text m s fit f new plain = record {
+    grows = record { later = later_meaning s text m (none_there (place_of s.names text) new) plain; externs = names_same (names s); locals = le_refl (length s.locals) };
     fit = record { meanings = all_push meaning_few s.meanings m fit.meanings f; locals = fit.locals; structs = fit.structs; externs = fit.externs };
   }
 
@@ -289,13 +293,13 @@ typedef_law name t s fit f =
     goes_unless s (not (fits t)) 24 name.place _ (λ b.
     goes_unless s (has_secure_pointer t) 29 name.place _ (λ c.
     goes_unless s (is_reserved name.text) 45 name.place _ (λ d.
-    came_by s (with_meaning name.text (Typedef t) s) tt (meaning_leads name.text (Typedef t) s fit f) tt))))
+    came_by s (with_meaning name.text (Typedef t) s) tt (meaning_leads name.text (Typedef t) s fit f a refl) tt))))
 
 pub constant_law : (name : Name) (n : ℕ) (s : Tables) → IsFit s → Goes Anything s (declare_constant name n s)
 constant_law name n s fit =
     goes_unless s _ 21 name.place _ (λ a.
     goes_unless s (is_reserved name.text) 45 name.place _ (λ b.
-    came_by s (with_meaning name.text (Constant n) s) tt (meaning_leads name.text (Constant n) s fit refl) tt))
+    came_by s (with_meaning name.text (Constant n) s) tt (meaning_leads name.text (Constant n) s fit refl a refl) tt))
 
 abbrev known_few : Known → Bool
 known_few k = few k.ctype
