@@ -1,4 +1,0 @@
-pub mod OperandLaws
-pub mod FormedLaws
-pub mod Walk
-pub mod Layers

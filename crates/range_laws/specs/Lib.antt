@@ -1,4 +1,0 @@
-pub mod Ranges
-pub mod Few
-pub mod Fits
-pub mod Steps
