@@ -1,5 +1,5 @@
 -- What the structs of the tree do, each by its parts: the fold over a struct is the step on what its parts do.
-use Rattle.std.proofs.Common.{◌≡◌, ℕ, Bool, true, false, List, ◌∷◌, map, option_map, Option, Some, None, Ok, refl, ap, rules}
+use Rattle.std.proofs.Common.{◌≡◌, ℕ, Bool, true, false, List, ◌∷◌, map, option_map, Option, Some, None, Ok, ◌∙◌, refl, ap, rules}
 use Rattle.cm_base.specs.declared.place.Place.{Place}
 use Rattle.c_ast.specs.declared.expr.Link.{Link}
 use Rattle.c_ast.specs.declared.expr.Name.{Name}
@@ -73,6 +73,10 @@ pub type_name_is : (n : TypeName) (around : Around) (s : Tables)
     → type_name n around s ≡ (specifiers false around n.specs s >>> (λ it u. keeping u (head_of it)) >>> (λ h u. forming n.declarator h.attributes around u >>> (λ f v. keeping v (type_of_name h f))))
 type_name_is n around s = search (rules, the_lemmas)
 
+named_step : (specs : List Spec) (d : Declarator) (around : Around) (s : Tables)
+    → passing (Named specs d) around s ≡ param_step (layer.Named (map specifying specs) (declaring d)) around s
+named_step specs d around s = search (rules, the_lemmas)
+
 pub named_is : (specs : List Spec) (d : Declarator) (around : Around) (s : Tables)
     → passing (Named specs d) around s ≡ (specifiers false around specs s >>> (λ it u. keeping u (head_of it)) >>> (λ h u. forming d.form h.attributes around u >>> (λ f v. parameter (Some d.name) h f around v)))
-named_is specs d around s = ap (λ (x : Declaring). param_step (layer.Named (map specifying specs) x) around s) (declaring_is d)
+named_is specs d around s = named_step specs d around s ∙ ap (λ (x : Declaring). param_step (layer.Named (map specifying specs) x) around s) (declaring_is d)

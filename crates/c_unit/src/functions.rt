@@ -1,6 +1,6 @@
 //! Functions with their bodies.
 
-ghost use Rattle.std.specs.Prelude.{◌≡◌, ◌≤◌, IfOk, option_copied};
+ghost use Rattle.std.specs.Prelude.{◌≡◌, ◌≤◌, IfOk, drop, option_copied, take};
 ghost use Rattle.c_tree.specs.Nodes.{function_nodes};
 ghost use Rattle.c_tree.specs.Slots as sizes;
 ghost use Rattle.c_rows.specs.Answers.{Gives};
@@ -120,6 +120,22 @@ fn gives_of(alloc: Global, t: &CType) -> Result<CType, NoMemory>
     }
 }
 
+/// So many of the locals, and the others.
+fn split(
+    alloc: Global,
+    locals: List<TLocal>,
+    many: usize,
+) -> Result<(List<TLocal>, List<TLocal>), NoMemory>
+    ensures { IfOk result (λ p. (p.0 ≡ take many locals) × (p.1 ≡ drop many locals)) }
+{
+    let mut front = locals.into_vec();
+    if front.len() < many {
+        return Ok((List::from_vec(front), List::new(alloc)));
+    }
+    let rest = front.split_off(many)?;
+    Ok((List::from_vec(front), List::from_vec(rest)))
+}
+
 /// A function, of whose locals so many are its parameters.
 fn function_of(
     alloc: Global,
@@ -132,16 +148,15 @@ fn function_of(
 ) -> Result<TFunction, NoMemory>
     ensures { IfOk result (λ f. f ≡ spec.function_of name.now ctype state many body locals) }
 {
-    let mut params = locals.into_vec();
-    let rest = params.split_off(many);
+    let (params, locals) = split(alloc, locals, many)?;
     Ok(TFunction {
         name: name.text.copy(alloc)?,
         unit: name.place.unit,
         ctype,
         entry: state.is_entry,
         is_static: state.is_static,
-        params: List::from_vec(params),
-        locals: List::from_vec(rest),
+        params,
+        locals,
         body,
         place: name.place,
     })
