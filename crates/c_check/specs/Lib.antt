@@ -1,0 +1,4 @@
+pub mod Operands
+pub mod Specified
+pub mod Formed
+pub mod Typed
