@@ -2,7 +2,7 @@
 ghost use Rattle.std.specs.Prelude.{◌≡◌, ◌+◌, ◌<◌, ◌^◌, length, slice_index, All, true, IfOk};
 ghost use Rattle.std.specs.List.{list_all};
 ghost use Rattle.elf_object.specs.File.{reloc_fits};
-ghost use Rattle.linker.specs.Resolve.{Reaches, linked_by};
+ghost use Rattle.link_laws.specs.Resolve.{Reaches, linked_by};
 
 use crate::relocation::resolve;
 use cm_base::{Bytes, List, NoMemory};
