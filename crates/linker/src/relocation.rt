@@ -66,8 +66,8 @@ fn resolved(kind: u8, at: u32, place: u32, register: u32) -> u32
     if kind == R_ARM_ABS32 {
         place
     } else if kind == R_ARM_THM_CALL {
-        let off = place.wrapping_sub(at + 4);
-        word_of(&Instr::Bl { off })
+        let call = place.wrapping_sub(at + 4);
+        word_of(&Instr::Bl { off: call })
     } else if kind == R_ARM_THM_JUMP24 {
         let off = place.wrapping_sub(at + 4);
         word_of(&Instr::B { off })
