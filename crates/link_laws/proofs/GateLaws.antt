@@ -45,7 +45,8 @@ module _ (f : ℕ → List ℕ) (eight : (a : ℕ) → length (f a) ≡ 8) where
   pub byte_at_block : (n a k j : ℕ) → k < n → j < 8 → slice_index (flat_map f (places_from n a)) (8 * k + j) ≡ slice_index (f (a + 8 * k)) j
   byte_at_block zero a k j lt low = absurd (omega (arith, lt))
   byte_at_block (suc n) a zero j lt low =
-      get_or_append_left (f a) (flat_map f (places_from n (a + 8))) 0 j (omega (arith, low, eight a)) ∙ ap (λ b. slice_index (f b) j) (let e : a ≡ a + 8 * 0 = omega arith in e)
+      ap (slice_index (flat_map f (places_from (suc n) a))) (let i : 8 * 0 + j ≡ j = omega arith in i)
+      ∙ get_or_append_left (f a) (flat_map f (places_from n (a + 8))) 0 j (omega (arith, low, eight a)) ∙ ap (λ b. slice_index (f b) j) (let e : a ≡ a + 8 * 0 = omega arith in e)
   byte_at_block (suc n) a (suc k) j lt low =
       let rest = flat_map f (places_from n (a + 8)) in
       let e : 8 * suc k + j - 8 ≡ 8 * k + j = omega arith in
@@ -164,10 +165,11 @@ veneer_there (w ∷ vs) up v zero lt e =
 veneer_there (w ∷ vs) up v (suc k) lt e =
     let m = get_or-map (λ x. x.address) vs k v 0 (omega (arith, lt)) in
     let a : slice_index (map (λ x. x.address) vs) k ≡ v.address = m ∙ ap (λ x. x.address) e in
-    let r = rises (map (λ x. x.address) (w ∷ vs)) up 0 k (omega (arith, lt, length_addresses vs)) in
+    let to : 0 + suc k ≡ suc k = omega arith in
+    let r = subst (λ j. w.address < slice_index (map (λ x. x.address) (w ∷ vs)) j) to (rises (map (λ x. x.address) (w ∷ vs)) up 0 k (omega (arith, lt, length_addresses vs))) in
     let low : w.address < v.address = omega (arith, r, a) in
     ap (λ b. if b then Some w else veneer_at vs v.address) (other_address w.address v.address low)
-    ∙ veneer_there vs (λ j below. up (suc j) (omega (arith, below))) v k (omega (arith, lt)) e
+    ∙ veneer_there vs (λ j below. subst (λ m. slice_index (map (λ x. x.address) vs) j < slice_index (map (λ x. x.address) (w ∷ vs)) m) (let n : suc j + 1 ≡ suc (j + 1) = omega arith in n) (up (suc j) (omega (arith, below)))) v k (omega (arith, lt)) e
   where
     length_addresses : (xs : List Veneer) → length (map (λ x. x.address) xs) ≡ length xs
     length_addresses [] = refl

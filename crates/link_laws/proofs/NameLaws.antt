@@ -28,11 +28,11 @@ module _ (veneers : List Veneer) (name : List ℕ) where
   -- ---- where a name isn't defined
 
   none_step : (s : Sited) (x : Symbol) (h : Home) (b : Bool) (rest : Option ℕ) (n : ℕ) → cond (b && is_defined h) 1 0 + n ≡ 0 → (n ≡ 0 → rest ≡ None) → or_else (if b then place_in veneers s x.name x.value h else None) rest ≡ None
-  none_step s x Undefined true rest n e ih = ih e
+  none_step s x Undefined true rest n e ih = ih (omega (arith, e))
   none_step s x Text true rest n e ih = absurd (omega (arith, e))
   none_step s x Init true rest n e ih = absurd (omega (arith, e))
   none_step s x Absolute true rest n e ih = absurd (omega (arith, e))
-  none_step s x h false rest n e ih = ih e
+  none_step s x h false rest n e ih = ih (omega (arith, e))
 
   none_in : (s : Sited) (ss : List Symbol) → count ss ≡ 0 → named_in veneers s ss name ≡ None
   none_in s [] e = refl
@@ -41,7 +41,7 @@ module _ (veneers : List Veneer) (name : List ℕ) where
 
   -- ---- where it is
 
-  Is : Option ℕ → Type 0
+  abbrev pub Is : Option ℕ → Type 0
   Is o = (p : ℕ) × (o ≡ Some p)
 
   or_is : (a : Option ℕ) (p : ℕ) (rest : Option ℕ) → Is (or_else (or_else a (Some p)) rest)
@@ -49,11 +49,11 @@ module _ (veneers : List Veneer) (name : List ℕ) where
   or_is (Some q) p rest = (q, refl)
 
   some_step : (s : Sited) (x : Symbol) (h : Home) (b : Bool) (rest : Option ℕ) (n : ℕ) → 1 ≤ cond (b && is_defined h) 1 0 + n → (1 ≤ n → Is rest) → Is (or_else (if b then place_in veneers s x.name x.value h else None) rest)
-  some_step s x Undefined true rest n e ih = ih e
+  some_step s x Undefined true rest n e ih = ih (omega (arith, e))
   some_step s x Text true rest n e ih = or_is (veneer_of veneers x.name) (s.text_at + x.value) rest
   some_step s x Init true rest n e ih = or_is (veneer_of veneers x.name) (s.init_at + x.value) rest
   some_step s x Absolute true rest n e ih = (x.value, refl)
-  some_step s x h false rest n e ih = ih e
+  some_step s x h false rest n e ih = ih (omega (arith, e))
 
   some_in : (s : Sited) (ss : List Symbol) → 1 ≤ count ss → Is (named_in veneers s ss name)
   some_in s [] e = absurd (omega (arith, e))
@@ -61,7 +61,7 @@ module _ (veneers : List Veneer) (name : List ℕ) where
       some_step s x x.home (bytes_eq x.name name) (named_in veneers s ss name) (count ss) (subst (λ n. 1 ≤ n) (counted x ss) e) (some_in s ss)
 
   or_some : (o rest : Option ℕ) (n m : ℕ) → 1 ≤ n + m → (1 ≤ n → Is o) → (n ≡ 0 → o ≡ None) → (1 ≤ m → Is rest) → Is (or_else o rest)
-  or_some o rest zero m e is none ih = subst (λ x. Is (or_else x rest)) (sym (none refl)) (ih e)
+  or_some o rest zero m e is none ih = subst (λ x. Is (or_else x rest)) (sym (none refl)) (ih (omega (arith, e)))
   or_some o rest (suc n) m e is none ih = let i = is (omega arith) in subst (λ x. Is (or_else x rest)) (sym i.1) (i.0, refl)
 
   -- a defined name has a place
@@ -78,10 +78,10 @@ module _ (veneers : List Veneer) (name : List ℕ) where
   abbrev pub code_at : Sited → ℕ → Option ℕ
   code_at s value = or_else (veneer_of veneers name) (Some (s.text_at + value))
 
-  one_here : (x : Symbol) → x.home ≡ Text → x.name ≡ name → cond (bytes_eq x.name name && is_defined x.home) 1 0 ≡ 1
+  one_here : (x : Symbol) → x.home ≡ Text → x.name ≡ name → ◌≡◌ {A = ℕ} (cond (bytes_eq x.name name && is_defined x.home) 1 0) 1
   one_here x h n = rw h (by (bytes_eq x.name name) (ap (λ m. bytes_eq m name) n ∙ same_name name))
     where
-      by : (b : Bool) → b ≡ true → cond (b && true) 1 0 ≡ 1
+      by : (b : Bool) → b ≡ true → ◌≡◌ {A = ℕ} (cond (b && true) 1 0) 1
       by true e = refl
       by false e = absurd (true≢false (sym e))
 

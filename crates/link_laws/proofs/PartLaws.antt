@@ -29,7 +29,7 @@ pub length-padded : (at : ℕ) (part : List ℕ) → at + length (padded at part
 length-padded at part =
     let p = ap length (padded_is at part) in
     let a = length-append part (replicate (padding (at + length part)) 0) in
-    let r = length-replicate (padding (at + length part)) 0 in
+    let r = length-replicate {A = ℕ} (padding (at + length part)) 0 in
     omega (arith, p, a, r, aligned_is (at + length part))
 
 module _ (at : Sited → ℕ) (f : Sited → List ℕ) where

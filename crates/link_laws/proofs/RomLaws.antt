@@ -103,7 +103,7 @@ module _ (objects : List Object) (entries : List (List ℕ)) (veneers : List Ven
   filled_size : length (t ++ x ++ i ++ z) ≡ row_size 2
   filled_size =
       let a = length-append (t ++ x ++ i) z in
-      let r = length-replicate (row_size 2 - length (front veneers all)) 0 in
+      let r = length-replicate {A = ℕ} (row_size 2 - length (front veneers all)) 0 in
       omega (arith, a, r, front_low)
 
   gates_are : g ≡ flat_map (λ at. gate veneers all (veneer_at veneers at)) (places_from place_count NSC.from)
