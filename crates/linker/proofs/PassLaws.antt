@@ -1,5 +1,5 @@
 -- What the passes make is the ROM that is to be linked, and objects that can be linked are passed on from pass to pass.
-use Rattle.std.proofs.Common.{◌≡◌, ◌≢◌, ℕ, ◌+◌, ◌%◌, ◌<◌, ◌≤◌, ◌^◌, ◌&&◌, Bool, true, false, List, [], ◌∷◌, ◌++◌, length, map, get_or, flat_map, All, AllPairs, Contains, Ok, unwrap_or, codes, refl, sym, ap, ◌∙◌, subst, arith, lt-ltb}
+use Rattle.std.proofs.Common.{◌≡◌, ◌≢◌, ℕ, ◌+◌, ◌%◌, ◌<◌, ◌≤◌, ◌^◌, ◌&&◌, Bool, true, false, List, [], ◌∷◌, ◌++◌, length, map, get_or, flat_map, All, AllPairs, Contains, Option, Some, None, Ok, unwrap_or, codes, refl, sym, ap, ◌∙◌, subst, arith, lt-ltb}
 use Rattle.std.specs.Prelude.{nat_lt, nat_le, ◌==◌}
 use Rattle.std.specs.List.{list_all}
 use Rattle.std.proofs.lemmas.Bool.Decides.{nat_tests}
@@ -21,7 +21,7 @@ use Rattle.elf_object.proofs.ReadBack.{object_in-object_file}
 use Rattle.elf_object.specs.Linked.{linked_text}
 use Rattle.elf_object.specs.Placed.{vectors, veneer_code, twin, Placed}
 use Rattle.ns_types.specs.declared.event.Veneers.{Veneers}
-use Rattle.veneer_link.specs.Assign.{place_count, places_from, is_place, Assigns}
+use Rattle.veneer_link.specs.Assign.{place_count, places_from, is_place, Assigns, IsAssigned}
 use Rattle.veneer_laws.specs.Veneers.{AreVeneersOf}
 use Rattle.veneer_laws.proofs.Assigned.{assigned}
 use Rattle.link_laws.specs.Resolve.{Reaches}
@@ -36,7 +36,7 @@ use Rattle.link_laws.proofs.TextLaws.{and_left, and_right, less}
 use Rattle.veneer_laws.proofs.Places.{equal_numbers}
 use Rattle.linker.specs.declared.driver.Linked.{Linked}
 use Rattle.linker.specs.Table.{Names, found, defined, veneer_names, places_of, is_address, have_addresses}
-use Rattle.linker.specs.Passes.{place_named, text_part, gate_at, symbols_of_veneer, front_by, rom_by, CanPut, CanLead, CanPass, IsMade, IsLinked}
+use Rattle.linker.specs.Passes.{place_named, text_part, gate_at, symbols_of_veneer, front_by, rom_by, CanPut, CanLead, CanPass, IsMade, IsLinked, Links}
 use Rattle.linker.specs.Passes as passes
 use Rattle.linker.proofs.NamesLaws.{name_found, number_place, text_same}
 
@@ -196,3 +196,10 @@ veneers_from objects entries veneers l make made = subst (AreVeneersOf entries) 
 pub code_from : (objects : List Object) (entries : List (List ℕ)) (veneers : List Veneer) (l : Linked) → CanMake objects entries veneers → IsMade objects veneers l → All (LeadsToCode l.veneers.list (sited objects)) l.veneers.list
 code_from objects entries veneers l make made =
     subst (λ vs. All (LeadsToCode vs (sited objects)) vs) (sym made.veneers_are) (leads objects entries veneers make)
+
+pub links_from : (objects : List Object) (entries : List (List ℕ)) (old : List Veneer) (new : Veneers) (l : Linked) → Assigns entries old (Ok new) → IsMade objects new.list l → Links objects entries old (Ok l)
+links_from objects entries old new l is made =
+    ((is.0, is.1, subst (IsAssigned entries old) (sym made.veneers_are) is.2), linked_from objects new.list l made)
+
+pub kept_from : (objects : List Object) (old veneers : List Veneer) (l : Linked) → All (Contains veneers) old → IsMade objects veneers l → All (Contains l.veneers.list) old
+kept_from objects old veneers l kept made = subst (λ vs. All (Contains vs) old) (sym made.veneers_are) kept

@@ -20,7 +20,8 @@ pub fn linked_text(
     requires low { text_at + length text.now < 2 ^ 32 }
     requires fit { list_all (reloc_fits (length text.now) (length places.now)) relocs.now ≡ true }
     requires reach { All (λ r. Reaches r.kind (text_at + r.at) (slice_index places.now r.symbol)) relocs.now }
-    ensures { IfOk result (λ linked. linked ≡ linked_by text_at places.now text.now relocs.now) }
+    ensures is { IfOk result (λ linked. linked ≡ linked_by text_at places.now text.now relocs.now) }
+    ensures size { IfOk result (λ linked. length linked ≡ length text.now) }
 {
     let mut linked = Vec::from_slice(alloc, text)?;
     for r in relocs {

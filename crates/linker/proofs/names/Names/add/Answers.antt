@@ -8,7 +8,7 @@ use Rattle.linker.proofs.names.Names.add.Goals as goal
 pub returns-then-contains_key : goal.returns-then-contains_key
 returns-then-contains_key c =
     let there = ap (λ names. is_some (found names c.args.name.now)) (sym c.self.view_is) ∙ (ap is_some (found_map vec_items c.self.inside.kept.entries c.args.name.now) ∙ (sym c.contains_key.ensures ∙ c.if-contains_key.true)) in
-    c.self.view_is ∙ sym (ap (λ b. cond b c.args.self.now (c.args.self.now ++ (c.args.name.now, c.args.place) ∷ [])) there)
+    sym (ap (λ b. cond b c.args.self.now (c.args.self.now ++ (c.args.name.now, c.args.place) ∷ [])) there)
 
 pub returns : goal.returns
 returns c =
