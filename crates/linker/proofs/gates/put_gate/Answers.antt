@@ -14,4 +14,4 @@ pub put_veneer-requires-clause-reach : goal.put_veneer-requires-clause-reach
 put_veneer-requires-clause-reach c =
     let is = veneer_is c.args.veneers.now c.args.at c.in-Some.v.now (sym c.in-Some.ensures) in
     let lead = All-contains (CanLead c.args.names.now) c.args.veneers.now c.in-Some.v.now c.requires is.0 in
-    subst (Reaches 30 (c.in-Some.v.now.address + 4)) (sym c.in_ok-code.ensures) lead.reach
+    subst (Reaches 30 (c.in-Some.v.now.address + 4)) (sym c.in_ok-code-in-Some.ensures) lead.reach
