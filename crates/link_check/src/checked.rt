@@ -1,5 +1,5 @@
 //! Linking what is only known when it is there.
-ghost use Rattle.std.specs.Prelude.{◌≡◌, bytes_eq, map, IfOk, IfSome};
+ghost use Rattle.std.specs.Prelude.{◌≡◌, true, bytes_eq, map, IfOk, IfSome};
 ghost use Rattle.std.specs.List.{list_any};
 ghost use Rattle.std.specs.Option.{option_copied};
 ghost use Rattle.elf_object.specs.Placed.{Placed};

@@ -101,7 +101,7 @@ fn is_target(objects: &[Object], s: &Symbol) -> bool
 
 /// Whether a relocation of this kind may lead to a symbol.
 fn leads(objects: &[Object], kind: u8, symbol: Option<&Symbol>) -> bool
-    ensures { result ≡ spec.leads objects.now kind (option_copied symbol) }
+    ensures { result ≡ spec.leads objects.now kind (option_copied symbol.entry) }
 {
     match symbol {
         None => false,
