@@ -160,8 +160,7 @@ entry objects entries name e =
     let more = and_right (is_once objects name) (is_once objects (twin name) && is_apart entries name) rest in
     let s = found (has_twin name o.0.symbols) o.0.symbols o.2 in
     let t = found (is_twin name s.0) o.0.symbols (and_right (is_code name s.0) (list_any (is_twin name s.0) o.0.symbols) s.2) in
-    let same = equal_numbers t.0.value s.0.value (and_right (is_code (twin name) t.0) (t.0.value == s.0.value) t.2) in
-    (
+    let same = equal_numbers t.0.value s.0.value (and_right (is_code (twin name) t.0) (t.0.value == s.0.value) t.2) in (
       record {
         object = o.0;
         among = o.1;

@@ -84,8 +84,10 @@ fn entry_passes(
     let twin = twin_of(alloc, name)?;
     let code = twin.as_slice();
     let name = name.as_slice();
-    Ok(is_defined(objects, name, code)
-        && (is_once(objects, name) && (is_once(objects, code) && is_other(entries, code))))
+    Ok(
+        is_defined(objects, name, code)
+            && (is_once(objects, name) && (is_once(objects, code) && is_other(entries, code))),
+    )
 }
 
 /// Whether all entries pass.
@@ -129,7 +131,10 @@ pub fn can_link(alloc: Global, objects: &[Object], entries: &[Text]) -> Result<b
     ensures can { IfOk result (λ b. b ≡ true → CanLink objects.now entries.now) }
 {
     let entries_pass = entries_pass(alloc, objects, entries)?;
-    Ok(sizes_pass(objects)
-        && (objects_pass(objects)
-            && (entries_pass && (code_passes(objects, b".start") && code_passes(objects, b".stop")))))
+    Ok(
+        sizes_pass(objects)
+            && (objects_pass(objects)
+                && (entries_pass
+                    && (code_passes(objects, b".start") && code_passes(objects, b".stop")))),
+    )
 }

@@ -17,6 +17,7 @@ use v8m_isa::{Instr, decode};
 
 /// The most bytes of all texts, and of all initial contents.
 const MOST_TEXT: usize = 4_100_096;
+
 const MOST_INIT: usize = 49_152;
 
 /// Whether a value lies in its part.

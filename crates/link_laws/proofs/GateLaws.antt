@@ -146,8 +146,7 @@ pub gateway_parts : (rom : List ℕ) (a : ℕ) → is_gateway (device_of rom) a 
 unfolding is_gateway
 gateway_parts rom a e =
     let there = and_left (lies_in 3 a 4) (eqb (fetched (device_of rom) a) sg_half && eqb (fetched (device_of rom) (a + 2)) sg_half) e in
-    let halves = and_right (lies_in 3 a 4) (eqb (fetched (device_of rom) a) sg_half && eqb (fetched (device_of rom) (a + 2)) sg_half) e in
-    (
+    let halves = and_right (lies_in 3 a 4) (eqb (fetched (device_of rom) a) sg_half && eqb (fetched (device_of rom) (a + 2)) sg_half) e in (
       leb-true NSC.from a (and_left (leb NSC.from a) (leb (a + 4) NSC.to) there),
       leb-true (a + 4) NSC.to (and_right (leb NSC.from a) (leb (a + 4) NSC.to) there),
       eqb-true (fetched (device_of rom) a) sg_half (and_left (eqb (fetched (device_of rom) a) sg_half) (eqb (fetched (device_of rom) (a + 2)) sg_half) halves),

@@ -159,15 +159,14 @@ module _ (objects : List Object) (entries : List (List ℕ)) (veneers : List Ven
       let off : v.address - SECURE_ROM.from ≡ row_size 2 + 8 * k = omega (arith, low, eighth) in
       let named_is : named veneers all (twin v.name) ≡ code.place = ap (λ o. unwrap_or o 0) code.is in
       let found = veneer_there veneers make.are_veneers.ascending v j lt (get_or_itself j d lt) in
-      let bytes = veneer_code v.address code.place in
-      (
+      let bytes = veneer_code v.address code.place in (
         code.place,
         code.is,
         ap (λ n. take n (drop (v.address - SECURE_ROM.from) rom)) (length-veneer v.address code.place)
-        ∙ (ap (λ n. take 8 (drop n rom)) off
-        ∙ (block_there k (omega (arith, low, high))
-        ∙ (ap (λ a. gate veneers all (veneer_at veneers a)) at
-        ∙ (ap (gate veneers all) found ∙ ap (veneer_code v.address) named_is)))),
+            ∙ (ap (λ n. take 8 (drop n rom)) off
+            ∙ (block_there k (omega (arith, low, high))
+            ∙ (ap (λ a. gate veneers all (veneer_at veneers a)) at
+            ∙ (ap (gate veneers all) found ∙ ap (veneer_code v.address) named_is)))),
       )
     where
       get_or_itself : (j : ℕ) (d : Veneer) → j < length veneers → get_or veneers j (get_or veneers j d) ≡ get_or veneers j d

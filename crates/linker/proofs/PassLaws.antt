@@ -119,8 +119,8 @@ module _ (objects : List Object) (entries : List (List ℕ)) (veneers : List Ven
   addresses : list_all have_addresses (sited objects) ≡ true
   addresses =
       list_all-from_AllPass have_addresses (sited objects) (λ i d lt. let s = get_or (sited objects) i d in
-          list_all-from_AllPass (λ x. is_address s x.value x.home) s.object.symbols (λ j e below. let x = get_or s.object.symbols j e in
-              address_there s x.value x.home (sites i d lt) ((linkable i d lt).values j e below)))
+      list_all-from_AllPass (λ x. is_address s x.value x.home) s.object.symbols (λ j e below. let x = get_or s.object.symbols j e in
+      address_there s x.value x.home (sites i d lt) ((linkable i d lt).values j e below)))
 
   put : All (CanPut (veneer_names veneers) (defined (veneer_names veneers) (sited objects))) (sited objects)
   put i d lt =

@@ -68,12 +68,7 @@ fn add_symbol(
 }
 
 /// Adds the symbols that an object defines.
-fn add_object(
-    alloc: Global,
-    names: &mut Names,
-    entries: &Names,
-    s: &Sited,
-) -> Result<(), NoMemory>
+fn add_object(alloc: Global, names: &mut Names, entries: &Names, s: &Sited) -> Result<(), NoMemory>
     requires { spec.have_addresses s.now ≡ true }
     ensures { OnOk result (names.new ≡ spec.with_object entries.now names.old s.now) }
 {

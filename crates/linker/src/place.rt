@@ -6,8 +6,8 @@ ghost use Rattle.elf_object.specs.Reading.{IsObjectFile, object_in};
 ghost use Rattle.link_laws.specs.Sites as sites;
 
 use cm_base::{Bytes, List, NoMemory, SECURE_ROM};
-use elf32::aligned;
 use elf_object::{ElfFault, Object, Sited, read_object};
+use elf32::aligned;
 use std::alloc::Global;
 
 /// The address of the first text: behind the 16 words of the vector table.
