@@ -1,4 +1,0 @@
-//! Tests of the linker: words of a linked Secure ROM, and what old libraries are refused for.
-#![tactic(auto)]
-
-mod roms;
