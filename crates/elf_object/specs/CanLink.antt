@@ -1,6 +1,6 @@
 -- Objects that can be linked: what a compiler promises of those that it makes for one program (ELF for the Arm Architecture,
 -- Relocation; ECM0359818, Secure gateway veneers).
-use Rattle.std.specs.Prelude.{◌≡◌, ℕ, ◌+◌, ◌%◌, ◌≤◌, ◌==◌, ◌⊎◌, ◌&&◌, Bool, true, false, List, ◌++◌, length, sum_by, count_by, slice_get, bytes_eq, codes, All, AllPairs, Contains, Option, Some, None}
+use Rattle.std.specs.Prelude.{◌≡◌, ◌≢◌, ℕ, ◌+◌, ◌%◌, ◌≤◌, ◌==◌, ◌⊎◌, ◌&&◌, Bool, true, false, List, ◌++◌, length, sum_by, count_by, slice_get, bytes_eq, codes, All, AllPairs, Contains, Option, Some, None}
 use Rattle.ns_types.specs.Memory.{half_at}
 use Rattle.v8m_isa.specs.declared.instr.Instr.{Instr}
 use Rattle.v8m_isa.specs.declared.instr.Instr.TheVariants.{B, Bl, Movw, Movt}
@@ -97,13 +97,15 @@ pub record EntryCanLink (objects : List Object) (name : List ℕ) : Type 0 where
   pub twin_once : definitions objects (codes "__acle_se_" ++ name) ≡ 1
 
 -- The objects and the entries of a program. The sources' texts have at most 4,096,000 bytes and that of the start code 4,096; each
--- begins at a multiple of 4; there are at most 33 objects, and at most 49,152 bytes of initial contents.
+-- begins at a multiple of 4; there are at most 33 objects, and at most 49,152 bytes of initial contents. No entry has the name that
+-- the code of one has.
 pub record CanLink (objects : List Object) (entries : List (List ℕ)) : Type 0 where
   pub each : All (ObjectCanLink objects) objects
   pub few : length objects ≤ 33
   pub texts : sum_by (λ o. length o.text) objects ≤ 4100096
   pub inits : sum_by (λ o. length o.init) objects ≤ 49152
   pub entries_are : All (EntryCanLink objects) entries
+  pub twins : All (λ name. All (λ other. codes "__acle_se_" ++ name ≢ other) entries) entries
   pub start : IsCode objects (codes ".start")
   pub start_once : definitions objects (codes ".start") ≡ 1
   pub stop : IsCode objects (codes ".stop")

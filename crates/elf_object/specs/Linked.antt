@@ -1,5 +1,6 @@
 -- Where the symbols of linked objects stand, and the text of an object with its relocations resolved (ELF for the Arm Architecture,
 -- Relocation).
+pub use Rattle.elf_object.specs.declared.object.Sited.{Sited}
 use Rattle.std.specs.Prelude.{ℕ, ◌+◌, ◌/◌, ◌%◌, ◌==◌, List, [], ◌∷◌, ◌++◌, length, take, drop, bytes_eq, Option, Some, None, unwrap_or, option_and_then, slice_get, if◌then◌else◌}
 use Rattle.std.specs.List.{fold}
 use Rattle.cm_base.specs.LittleEndian.{le32}
@@ -15,12 +16,6 @@ use Rattle.elf_object.specs.declared.object.Home.{Home}
 use Rattle.elf_object.specs.declared.object.Home.TheVariants.{Undefined, Text, Init, Absolute}
 use Rattle.elf_object.specs.declared.object.Symbol.{Symbol}
 use Rattle.elf_object.specs.declared.object.Reloc.{Reloc}
-
--- an object with the addresses of its text and of its initial contents
-pub record Sited : Type 0 where
-  pub object : Object
-  pub text_at : ℕ
-  pub init_at : ℕ
 
 -- this, or else that
 abbrev pub or_else : Option ℕ → Option ℕ → Option ℕ

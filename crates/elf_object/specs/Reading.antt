@@ -21,6 +21,12 @@ pub record IsFileOf (bytes : List ℕ) (o : Object) : Type 0 where
   pub writable : CanWrite o
   pub is : bytes ≡ object_file o
 
+-- the bytes are the file of some object
+pub record IsObjectFile (bytes : List ℕ) : Type 0 where
+  pub object : Object
+  pub words : HasWords object
+  pub is : IsFileOf bytes object
+
 -- a field, or 0 where it isn't whole
 abbrev pub word : List ℕ → ℕ → ℕ
 word bytes at = unwrap_or (field32 bytes at) 0

@@ -14,6 +14,6 @@ pub use elf::{
 };
 pub use fits::is_writable;
 pub use layout::{Extent, Layout};
-pub use object::{Home, Object, Reloc, Symbol};
+pub use object::{Home, Object, Reloc, Sited, Symbol};
 pub use read::{ElfFault, read_object};
 pub use write::write_object;

@@ -38,3 +38,11 @@ pub struct Reloc {
     pub kind: u8,
     pub symbol: u32,
 }
+
+/// An object with the addresses of its text and of its initial contents.
+#[derive(Drop)]
+pub struct Sited {
+    pub object: Object,
+    pub text_at: u32,
+    pub init_at: u32,
+}

@@ -242,7 +242,8 @@ fn fault_at(alloc: Global, bytes: &[u8]) -> Result<u32, NoMemory>
 /// isn't whole; else of the first one whose value isn't what is written, where e_shoff may have any; and else 52.
 pub fn read_object(alloc: Global, bytes: &[u8]) -> Result<Object, ElfFault>
     requires { length bytes.now < 2 ^ 32 }
-    ensures { Reads bytes.now result }
+    ensures reads { Reads bytes.now result }
+    ensures object { IfOk result (λ o. o ≡ object_in bytes.now) }
 {
     let object = object_in(alloc, bytes)?;
     let same = is_file_of(alloc, bytes, &object)?;

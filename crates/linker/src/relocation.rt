@@ -5,7 +5,7 @@ ghost use Rattle.ns_types.specs.Memory.{half_at};
 ghost use Rattle.v8m_isa.specs.Table.{in_range_of, size_of, is_register};
 ghost use Rattle.v8m_isa.specs.Bytes.{instr_bytes};
 ghost use Rattle.elf_object.specs.Linked.{register_of, register_at, resolved};
-ghost use Rattle.linker.specs.Resolve.{Reaches, with_place};
+ghost use Rattle.link_laws.specs.Resolve.{Reaches, with_place};
 
 use elf_object::{R_ARM_ABS32, R_ARM_THM_CALL, R_ARM_THM_JUMP24, R_ARM_THM_MOVW_ABS_NC, Reloc};
 use v8m_isa::{Instr, decode, encode};
@@ -45,7 +45,7 @@ fn register_at(text: &[u8], at: usize) -> u32
 }
 
 /// The word whose bytes are those of an instruction of two halfwords.
-fn word_of(i: &Instr) -> u32
+pub fn word_of(i: &Instr) -> u32
     requires range { IsTrue (in_range_of i.now) }
     requires wide { size_of i.now ≡ 4 }
     ensures { le32 result ≡ instr_bytes i.now }
@@ -66,8 +66,8 @@ fn resolved(kind: u8, at: u32, place: u32, register: u32) -> u32
     if kind == R_ARM_ABS32 {
         place
     } else if kind == R_ARM_THM_CALL {
-        let off = place.wrapping_sub(at + 4);
-        word_of(&Instr::Bl { off })
+        let call = place.wrapping_sub(at + 4);
+        word_of(&Instr::Bl { off: call })
     } else if kind == R_ARM_THM_JUMP24 {
         let off = place.wrapping_sub(at + 4);
         word_of(&Instr::B { off })
@@ -82,7 +82,7 @@ fn resolved(kind: u8, at: u32, place: u32, register: u32) -> u32
 
 /// Resolves a relocation of a text that stands at an address, where the place of its symbol is known: all other bytes stay, and so do
 /// the form and the register of the instruction.
-#[tactic(auto, unfolding(crate::specs::Resolve::with_place))]
+#[tactic(auto, unfolding(link_laws::specs::Resolve::with_place))]
 pub fn resolve(text: &mut [u8], text_at: u32, r: &Reloc, place: u32)
     requires fits { r.now.at + 4 ≤ length text.old }
     requires low { text_at + length text.old < 2 ^ 32 }

@@ -2,7 +2,7 @@
 ghost use Rattle.std.specs.Prelude.{◌≡◌, ◌+◌, ◌<◌, ◌^◌, length, slice_index, All, true, IfOk};
 ghost use Rattle.std.specs.List.{list_all};
 ghost use Rattle.elf_object.specs.File.{reloc_fits};
-ghost use Rattle.linker.specs.Resolve.{Reaches, linked_by};
+ghost use Rattle.link_laws.specs.Resolve.{Reaches, linked_by};
 
 use crate::relocation::resolve;
 use cm_base::{Bytes, List, NoMemory};
@@ -20,7 +20,8 @@ pub fn linked_text(
     requires low { text_at + length text.now < 2 ^ 32 }
     requires fit { list_all (reloc_fits (length text.now) (length places.now)) relocs.now ≡ true }
     requires reach { All (λ r. Reaches r.kind (text_at + r.at) (slice_index places.now r.symbol)) relocs.now }
-    ensures { IfOk result (λ linked. linked ≡ linked_by text_at places.now text.now relocs.now) }
+    ensures is { IfOk result (λ linked. linked ≡ linked_by text_at places.now text.now relocs.now) }
+    ensures size { IfOk result (λ linked. length linked ≡ length text.now) }
 {
     let mut linked = Vec::from_slice(alloc, text)?;
     for r in relocs {

@@ -1,5 +1,5 @@
 use Rattle.std.proofs.Common.{◌≡◌, length, take}
-use Rattle.linker.specs.Resolve.{linked_by}
+use Rattle.link_laws.specs.Resolve.{linked_by}
 use Rattle.linker.proofs.text.linked_text.Given as goal
 
 abbrev pub invariant-loop-r : goal.invariant-loop-r

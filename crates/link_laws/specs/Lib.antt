@@ -1,0 +1,3 @@
+pub mod Resolve
+pub mod Sites
+pub mod Rom

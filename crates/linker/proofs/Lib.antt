@@ -1,0 +1,4 @@
+pub mod NamesLaws
+pub mod PassLaws
+pub mod MadeLaws
+pub mod LoopLaws
