@@ -1,5 +1,5 @@
 -- Expressions before their values are taken: a tree, or the name of a call of arm_cmse.h; and where the text of one begins.
-use Rattle.std.specs.Prelude.{ℕ, Bool, true, false, List, Option, Some, None, Ok}
+use Rattle.std.specs.Prelude.{ℕ, Bool, true, false, cond, List, Option, Some, None, Ok}
 use Rattle.cm_base.specs.declared.place.Place.{Place}
 use Rattle.c_ast.specs.declared.expr.AssignOp.{AssignOp}
 use Rattle.c_ast.specs.declared.expr.AssignOp.TheVariants as assigns
@@ -12,6 +12,7 @@ use Rattle.c_ast.specs.declared.expr.UnOp.TheVariants as un
 use Rattle.c_ast.specs.declared.expr.Name.{Name}
 use Rattle.c_tree.specs.declared.expr.Expr.{Expr}
 use Rattle.c_types.specs.declared.ctype.CType.{CType}
+use Rattle.c_types.specs.Kind.{is_struct, referenced}
 use Rattle.c_tree.specs.declared.expr.BinOp.{BinOp as TreeOp}
 use Rattle.c_tree.specs.declared.expr.BinOp.TheVariants as bin
 use Rattle.c_tree.specs.declared.expr.UnOp.TheVariants as tree_un
@@ -181,9 +182,18 @@ member_row s place name e = member_of s e.ctype place name >>= (λ m. Ok (access
 abbrev pub member_operand : Tables → Place → Name → Operand → Checked Operand
 member_operand s place name e = whole e.first (tree_of e >>= member_row s place name)
 
--- `p->name` is `(*p).name`
+-- what a pointer points to has members where it is a struct
+abbrev pub has_members : Option CType → Bool
+has_members (Some to) = is_struct to
+has_members None = false
+
+-- where p points to a struct, `p->name` is `(*p).name`
+abbrev pub arrow_row : Tables → Place → Name → Expr → Checked Expr
+arrow_row s place name p = cond (has_members (referenced p.ctype)) (dereferenced place p >>= member_row s place name) (fault 22 place)
+
+-- `p->name`
 abbrev pub arrow_operand : Tables → Place → Name → Operand → Checked Operand
-arrow_operand s place name p = whole p.first (value_of p >>= dereferenced place >>= member_row s place name)
+arrow_operand s place name p = whole p.first (value_of p >>= arrow_row s place name)
 
 -- ---- constants
 

@@ -3,6 +3,7 @@
 ghost use Rattle.std.specs.Prelude.{◌≡◌, IfOk};
 ghost use Rattle.c_rows.specs.Answers.{Gives};
 ghost use Rattle.c_rows.specs.Nodes as numbers;
+ghost use Rattle.c_types.specs.Kind.{referenced};
 ghost use Rattle.c_check.specs.Operands as spec;
 
 use c_ast::{AssignOp, BinOp, Name, NumberType, StepOp, UnOp};
@@ -14,7 +15,7 @@ use c_rows::{
 };
 use c_scope::{Tables, intrinsic_named, member_of, named};
 use c_tree::Expr;
-use c_types::CType;
+use c_types::{CType, Shape};
 use cm_base::{NoMemory, Place, Shared};
 use std::alloc::Global;
 
@@ -389,6 +390,33 @@ pub fn member_operand(
     Ok(Operand::new(first, member_row(alloc, tables, place, name, e)?))
 }
 
+/// Whether what a pointer points to has members.
+fn has_members(t: &CType) -> bool
+    ensures { result ≡ spec.has_members (referenced t.now) }
+{
+    match &t.shape {
+        Shape::Pointer(to) => to.get().is_struct(),
+        _ => false,
+    }
+}
+
+/// A member of what a pointer points to: E22 at the operator where that is no struct.
+fn arrow_row(
+    alloc: Global,
+    tables: &Tables,
+    place: Place,
+    name: &Name,
+    p: Shared<Expr>,
+) -> Result<Shared<Expr>, TypeFault>
+    ensures { Gives result (spec.arrow_row tables.now place name.now p) }
+{
+    if !has_members(&p.get().ctype) {
+        return Err(at(22, place));
+    }
+    let e = dereferenced(alloc, place, p)?;
+    member_row(alloc, tables, place, name, e)
+}
+
 /// `p->name`
 pub fn arrow_operand(
     alloc: Global,
@@ -401,8 +429,7 @@ pub fn arrow_operand(
 {
     let first = o.first;
     let p = o.value(alloc)?;
-    let e = dereferenced(alloc, place, p)?;
-    Ok(Operand::new(first, member_row(alloc, tables, place, name, e)?))
+    Ok(Operand::new(first, arrow_row(alloc, tables, place, name, p)?))
 }
 
 /// An array's length: E24 at the first token where it is no constant from 1 to 49,152.
