@@ -26,7 +26,7 @@ use Rattle.c_decl.specs.Headings.{bare, declared_by, heading_of, is_typedef, lin
 abbrev pub at_file : Around
 at_file = record { scope = record { names = 0; tags = 0; locals = 0; is_file = true }; in_entry = false }
 
--- a function that is declared, with a body or without one; its number
+-- a function that is declared without a body; its number
 abbrev pub function_declared : Heading → Name → Declared → Step ℕ
 function_declared h name d s = attributed d.attributes Function d.ctype name.place >>= (λ t. declare_function name t (linkage h d.attributes) s)
 

@@ -29,11 +29,8 @@ pub fn at_file() -> Around
     }
 }
 
-/// Declares a function, with a body or without one, and gives its number. `d` is its declarator's type and attributes.
-///
-/// # Errors
-/// At its name code 40 for an attribute that can't stand on a function, code 42, and the codes of `declare_function`.
-pub fn function_declared(
+/// Declares a function without a body, and gives its number.
+fn function_declared(
     alloc: Global,
     tables: &mut Tables,
     head: &Heading,
