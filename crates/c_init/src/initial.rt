@@ -89,14 +89,20 @@ fn set_scalar(
     scalar_set(alloc, around.scope.is_file, t, from, items, o)
 }
 
+/// The code of an expression of this type for a struct.
+fn struct_code(t: &CType) -> u8
+    ensures { result ≡ spec.struct_code t.now }
+{
+    if t.is_struct() { 29 } else { 28 }
+}
+
 /// An expression for a struct: E29 at its first token where it is one, which would be by value, else E28.
 fn struct_refused(o: Operand) -> Result<List<Item>, TypeFault>
     ensures { Gives result (spec.struct_refused o) }
 {
     let first = o.first;
     let e = o.tree()?;
-    let code = if e.get().ctype.is_struct() { 29 } else { 28 };
-    Err(at(code, first))
+    Err(at(struct_code(&e.get().ctype), first))
 }
 
 fn set_struct(
