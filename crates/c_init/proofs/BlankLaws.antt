@@ -9,12 +9,12 @@ use Rattle.c_init.specs.declared.parts.Parts.{Parts}
 use Rattle.c_init.specs.Blanks.{blank, blank_as, blank_from, blank_part}
 use Rattle.c_init.specs.Parts.{part_at, parts_of}
 
-blank_none : (deep : ℕ) (structs : List StructInfo) (place : Place) (t : CType) (at : ℕ) (done : List Item) → deep ≡ 0 → blank deep structs place t at done ≡ done
+pub blank_none : (deep : ℕ) (structs : List StructInfo) (place : Place) (t : CType) (at : ℕ) (done : List Item) → deep ≡ 0 → blank deep structs place t at done ≡ done
 unfolding blank
 blank_none zero structs place t at done e = refl
 blank_none (suc d) structs place t at done e = absurd (omega (arith, e))
 
-blank_level : (deep : ℕ) (structs : List StructInfo) (place : Place) (t : CType) (at : ℕ) (done : List Item) → 0 < deep
+pub blank_level : (deep : ℕ) (structs : List StructInfo) (place : Place) (t : CType) (at : ℕ) (done : List Item) → 0 < deep
     → blank deep structs place t at done ≡ blank_as (blank (deep - 1) structs place) t place at done (parts_of structs t)
 unfolding blank
 blank_level zero structs place t at done h = absurd (omega (arith, h))

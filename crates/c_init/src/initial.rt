@@ -6,6 +6,7 @@ ghost use Rattle.c_types.specs.Kind.{look};
 ghost use Rattle.c_rows.specs.Answers.{Gives};
 ghost use Rattle.c_scope.specs.Steps.{Leaves};
 ghost use Rattle.c_init.specs.Initials as spec;
+ghost use Rattle.c_init.specs.Parts as kinds;
 
 use crate::blanks::rest_blank;
 use crate::parts::{Parts, Slot, parts_of};
@@ -118,7 +119,7 @@ fn set_struct(
 }
 
 /// An expression for an object of these parts.
-fn set_expression(
+fn set_by_parts(
     alloc: Global,
     e: &Tree,
     tables: &mut Tables,
@@ -141,6 +142,22 @@ fn set_expression(
             Parts::Members(_) => set_struct(alloc, e, tables, around),
         },
     }
+}
+
+/// An expression for an object of a type.
+fn set_expression(
+    alloc: Global,
+    e: &Tree,
+    tables: &mut Tables,
+    around: Around,
+    t: &CType,
+    from: u32,
+    items: List<Item>,
+) -> Result<List<Item>, TypeFault>
+    ensures { Leaves result tables.new (spec.set_expression around e.now t.now from items (kinds.parts_of tables.old.structs t.now) tables.old) }
+{
+    let parts = parts_of(alloc, t, tables.structs.as_slice())?;
+    set_by_parts(alloc, e, tables, around, t, from, items, parts)
 }
 
 /// The place of its first token.
@@ -166,15 +183,31 @@ fn set(
 ) -> Result<List<Item>, TypeFault>
     ensures { Leaves result tables.new (spec.sets x.now around t.now from items tables.old) }
 {
-    let parts = parts_of(alloc, t, tables.structs.as_slice())?;
     match x {
-        Initial::Assign(e) => set_expression(alloc, e, tables, around, t, from, items, parts),
-        Initial::Braces(place, list) => match parts {
-            None => Err(at(28, *place)),
-            Some(parts) => {
-                set_parts(alloc, list.as_slice(), tables, around, *place, &parts, from, items)
-            }
-        },
+        Initial::Assign(e) => set_expression(alloc, e, tables, around, t, from, items),
+        Initial::Braces(place, list) => {
+            set_braces(alloc, list.as_slice(), tables, around, *place, t, from, items)
+        }
+    }
+}
+
+/// Initialisers in braces. It is E28 at the brace where a scalar is due.
+#[cycle(initials)]
+fn set_braces(
+    alloc: Global,
+    list: &[Initial],
+    tables: &mut Tables,
+    around: Around,
+    place: Place,
+    t: &CType,
+    from: u32,
+    items: List<Item>,
+) -> Result<List<Item>, TypeFault>
+    ensures { Leaves result tables.new (spec.set_braces place (map spec.setting list.now) around from items (kinds.parts_of tables.old.structs t.now) tables.old) }
+{
+    match parts_of(alloc, t, tables.structs.as_slice())? {
+        None => Err(at(28, place)),
+        Some(parts) => set_parts(alloc, list, tables, around, place, &parts, from, items),
     }
 }
 
