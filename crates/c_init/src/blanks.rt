@@ -33,7 +33,7 @@ pub fn constant_item(
 
 /// All scalars in an object of a type that begins so many bytes into the whole, each 0, behind the elements that are done.
 #[cycle(blanks)]
-#[tactic(auto, unfolding(crate::specs::Blanks::blank))]
+#[tactic(auto, using(crate::proofs::BlankLaws::levels))]
 fn blank(
     alloc: Global,
     deep: u32,
@@ -49,7 +49,17 @@ fn blank(
         return Ok(items);
     }
     match parts_of(alloc, t, structs)? {
-        Some(parts) => blank_from(alloc, deep - 1, structs, place, &parts, at, 0, parts.count(), items),
+        Some(parts) => blank_from(
+            alloc,
+            deep - 1,
+            structs,
+            place,
+            &parts,
+            at,
+            0,
+            parts.count(),
+            items,
+        ),
         None => with_zero(alloc, t, place, at, items),
     }
 }
@@ -70,6 +80,7 @@ fn with_zero(
 
 /// The same for n parts from the one of number `first` on.
 #[cycle(blanks)]
+#[tactic(auto, using(crate::proofs::BlankLaws::blank_one))]
 fn blank_from(
     alloc: Global,
     deep: u32,
