@@ -1,6 +1,6 @@
 -- Statements, blocks and bodies of functions: their typed trees, or the first fault in the order of the text (C11 6.8). One
 -- layer of the syntax tree, each part replaced by what it does.
-use Rattle.std.specs.Prelude.{ℕ, Bool, List, [], ◌∷◌, ◌++◌, map, Option, Some, None, option_map, Ok}
+use Rattle.std.specs.Prelude.{List, [], ◌∷◌, ◌++◌, map, Option, Some, None, option_map, Ok}
 use Rattle.c_ast.specs.declared.stmt.Stmt.{Stmt as Tree}
 use Rattle.c_ast.specs.declared.stmt.Block.{Block}
 use Rattle.c_ast.specs.declared.stmt.Item.{Item}
@@ -12,7 +12,6 @@ use Rattle.c_types.specs.declared.ctype.CType.{CType}
 use Rattle.c_tree.specs.declared.expr.Expr.{Expr}
 use Rattle.c_tree.specs.declared.stmt.Stmt.{Stmt}
 use Rattle.c_tree.specs.declared.stmt.Stmt.TheVariants as stmt
-use Rattle.c_scope.specs.declared.tables.Tables.{Tables}
 use Rattle.c_scope.specs.Steps.{Step, ◌>>>◌, keeping}
 use Rattle.c_check.specs.declared.around.Around.{Around}
 use Rattle.c_body.specs.declared.arms.Arms.{Arms}
