@@ -26,7 +26,7 @@ use Rattle.c_decl.specs.Headings.{bare, declared_by, heading_of, is_typedef, lin
 abbrev pub at_file : Around
 at_file = record { scope = record { names = 0; tags = 0; locals = 0; is_file = true }; in_entry = false }
 
--- a function that is declared, with a body or without one; its number
+-- a function that is declared without a body; its number
 abbrev pub function_declared : Heading → Name → Declared → Step ℕ
 function_declared h name d s = attributed d.attributes Function d.ctype name.place >>= (λ t. declare_function name t (linkage h d.attributes) s)
 
@@ -37,11 +37,11 @@ typedef_declared name d s = attributed d.attributes Other d.ctype name.place >>=
 abbrev pub first_bytes : CType → Bool → List Item → List ℕ
 first_bytes t noinit items = cond noinit [] (contents t items)
 
-abbrev pub global : Name → CType → Bool → List Item → TGlobal
-global name t noinit items = record { name = name.text; unit = name.place.unit; ctype = t; noinit = noinit; init = first_bytes t noinit items; place = name.place }
+abbrev pub new_global : Name → CType → Bool → List Item → TGlobal
+new_global name t noinit items = record { name = name.text; unit = name.place.unit; ctype = t; noinit = noinit; init = first_bytes t noinit items; place = name.place }
 
 abbrev pub with_global : Name → CType → Bool → List Item → List TGlobal → List TGlobal
-with_global name t noinit items made = made ++ global name t noinit items ∷ []
+with_global name t noinit items made = made ++ new_global name t noinit items ∷ []
 
 -- an extern declaration without an initialiser defines nothing
 abbrev pub global_value : ℕ → Name → CType → Bool → Bool → Option Initial → List TGlobal → Step (List TGlobal)

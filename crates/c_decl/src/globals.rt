@@ -29,11 +29,8 @@ pub fn at_file() -> Around
     }
 }
 
-/// Declares a function, with a body or without one, and gives its number. `d` is its declarator's type and attributes.
-///
-/// # Errors
-/// At its name code 40 for an attribute that can't stand on a function, code 42, and the codes of `declare_function`.
-pub fn function_declared(
+/// Declares a function without a body, and gives its number.
+fn function_declared(
     alloc: Global,
     tables: &mut Tables,
     head: &Heading,
@@ -70,14 +67,14 @@ fn first_bytes(alloc: Global, t: &CType, noinit: bool, items: &[Item]) -> Result
 }
 
 /// A global that is defined with these elements.
-fn global(
+fn new_global(
     alloc: Global,
     name: &Name,
     t: CType,
     noinit: bool,
     items: &[Item],
 ) -> Result<TGlobal, NoMemory>
-    ensures { IfOk result (λ g. g ≡ spec.global name.now t noinit items.now) }
+    ensures { IfOk result (λ g. g ≡ spec.new_global name.now t noinit items.now) }
 {
     let init = first_bytes(alloc, &t, noinit, items)?;
     Ok(TGlobal {
@@ -101,7 +98,7 @@ fn with_global(
     ensures { IfOk result (λ r. r ≡ spec.with_global name.now t noinit items.now made) }
 {
     let mut made = made;
-    made.push(global(alloc, name, t, noinit, items)?)?;
+    made.push(new_global(alloc, name, t, noinit, items)?)?;
     Ok(made)
 }
 

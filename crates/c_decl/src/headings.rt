@@ -119,7 +119,12 @@ fn declared_type(
     }
 }
 
-fn declared_as(
+/// The type that a declarator of this form gives, and all attributes of what it declares. `place` is its name's.
+///
+/// # Errors
+/// The faults of the derived type at `place`; code 27 at `inline` before what is no function; code 40 at the name of an attribute
+/// that isn't known.
+pub fn declared_as(
     alloc: Global,
     head: &Heading,
     place: Place,

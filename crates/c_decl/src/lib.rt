@@ -5,6 +5,6 @@ mod globals;
 mod headings;
 mod locals;
 
-pub use globals::{at_file, file_declaration, function_declared};
-pub use headings::{Declared, Heading, declared_by, heading_of, is_typedef, linkage};
+pub use globals::{at_file, file_declaration};
+pub use headings::{Declared, Heading, declared_as, heading_of, is_typedef, linkage};
 pub use locals::local_declaration;

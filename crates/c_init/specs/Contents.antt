@@ -1,5 +1,5 @@
 -- The bytes that a global begins with: those of its elements, the lowest first, and 0 in all others.
-use Rattle.std.specs.Prelude.{ℕ, ◌+◌, ◌/◌, ◌%◌, zero, suc, List, [], ◌∷◌, slice_set, replicate, Option, Some, None}
+use Rattle.std.specs.Prelude.{ℕ, ◌+◌, ◌/◌, ◌%◌, zero, suc, cond, ltb, List, [], ◌∷◌, length, slice_set, replicate, Option, Some, None}
 use Rattle.std.specs.Option.{unwrap_or}
 use Rattle.c_types.specs.Arithmetic.{arith_size}
 use Rattle.c_types.specs.Kind.{Look, look}
@@ -18,10 +18,14 @@ width_in _ = 0
 abbrev pub width : CType → ℕ
 width t = width_in (look t)
 
+-- a byte at a place; there is none behind the end
+abbrev pub put_byte : List ℕ → ℕ → ℕ → List ℕ
+put_byte bytes at b = cond (ltb at (length bytes)) (slice_set bytes at b) bytes
+
 -- so many bytes of a number from a place on
 abbrev pub put : ℕ → ℕ → ℕ → List ℕ → List ℕ
 put zero at n bytes = bytes
-put (suc k) at n bytes = put k (at + 1) (n / 256) (slice_set bytes at (n % 256))
+put (suc k) at n bytes = put k (at + 1) (n / 256) (put_byte bytes at (n % 256))
 
 abbrev pub put_item : List ℕ → Item → List ℕ
 put_item bytes i = put (width i.value.ctype) i.offset (unwrap_or (constant i.value) 0) bytes

@@ -59,8 +59,11 @@ set_scalar around e t at done s =
     refuse (is_misplaced e t) 28 (first_place e) (typed e around s >>> (λ o u. keeping u (scalar_set around.scope.is_file t at done o)))
 
 -- there are no structs by value, and nothing else is one
+abbrev pub struct_code : CType → ℕ
+struct_code t = cond (is_struct t) 29 28
+
 abbrev pub struct_refused : Operand → Checked (List Item)
-struct_refused o = tree_of o >>= (λ x. fault (cond (is_struct x.ctype) 29 28) o.first)
+struct_refused o = tree_of o >>= (λ x. fault (struct_code x.ctype) o.first)
 
 abbrev pub set_struct : Around → Tree → Step (List Item)
 set_struct around e s = typed e around s >>> (λ o u. keeping u (struct_refused o))

@@ -33,7 +33,7 @@ pub fn constant_item(
 
 /// All scalars in an object of a type that begins so many bytes into the whole, each 0, behind the elements that are done.
 #[cycle(blanks)]
-#[tactic(auto, unfolding(crate::specs::Blanks::blank))]
+#[tactic(auto, using(crate::proofs::BlankLaws::levels))]
 fn blank(
     alloc: Global,
     deep: u32,
@@ -70,6 +70,7 @@ fn with_zero(
 
 /// The same for n parts from the one of number `first` on.
 #[cycle(blanks)]
+#[tactic(auto, using(crate::proofs::BlankLaws::blank_one))]
 fn blank_from(
     alloc: Global,
     deep: u32,

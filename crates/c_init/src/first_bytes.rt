@@ -21,16 +21,24 @@ fn width(t: &CType) -> u32
     }
 }
 
+/// Puts a byte at a place, unless that is behind the end.
+fn put_byte(bytes: &mut Bytes, at: usize, b: u8)
+    ensures { bytes.new ≡ spec.put_byte bytes.old at b }
+{
+    if at < bytes.len() {
+        bytes.set(at, b);
+    }
+}
+
 /// Puts so many bytes of a number, the lowest first, from a place on.
+#[tactic(auto, using(crate::proofs::PutLaws::put_one))]
 fn put(bytes: &mut Bytes, count: u32, at: u32, n: u32)
     ensures { bytes.new ≡ spec.put count at n bytes.old }
 {
     let mut here = at as usize;
     let mut left = n;
     for _k in 0..count {
-        if here < bytes.len() {
-            bytes.set(here, (left % 256) as u8);
-        }
+        put_byte(bytes, here, (left % 256) as u8);
         here += 1;
         left /= 256;
     }

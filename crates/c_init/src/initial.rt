@@ -6,6 +6,7 @@ ghost use Rattle.c_types.specs.Kind.{look};
 ghost use Rattle.c_rows.specs.Answers.{Gives};
 ghost use Rattle.c_scope.specs.Steps.{Leaves};
 ghost use Rattle.c_init.specs.Initials as spec;
+ghost use Rattle.c_init.specs.Parts as kinds;
 
 use crate::blanks::rest_blank;
 use crate::parts::{Parts, Slot, parts_of};
@@ -89,14 +90,20 @@ fn set_scalar(
     scalar_set(alloc, around.scope.is_file, t, from, items, o)
 }
 
+/// The code of an expression of this type for a struct.
+fn struct_code(t: &CType) -> u8
+    ensures { result ≡ spec.struct_code t.now }
+{
+    if t.is_struct() { 29 } else { 28 }
+}
+
 /// An expression for a struct: E29 at its first token where it is one, which would be by value, else E28.
 fn struct_refused(o: Operand) -> Result<List<Item>, TypeFault>
     ensures { Gives result (spec.struct_refused o) }
 {
     let first = o.first;
     let e = o.tree()?;
-    let code = if e.get().ctype.is_struct() { 29 } else { 28 };
-    Err(at(code, first))
+    Err(at(struct_code(&e.get().ctype), first))
 }
 
 fn set_struct(
@@ -112,7 +119,7 @@ fn set_struct(
 }
 
 /// An expression for an object of these parts.
-fn set_expression(
+fn set_by_parts(
     alloc: Global,
     e: &Tree,
     tables: &mut Tables,
@@ -135,6 +142,22 @@ fn set_expression(
             Parts::Members(_) => set_struct(alloc, e, tables, around),
         },
     }
+}
+
+/// An expression for an object of a type.
+fn set_expression(
+    alloc: Global,
+    e: &Tree,
+    tables: &mut Tables,
+    around: Around,
+    t: &CType,
+    from: u32,
+    items: List<Item>,
+) -> Result<List<Item>, TypeFault>
+    ensures { Leaves result tables.new (spec.set_expression around e.now t.now from items (kinds.parts_of tables.old.structs t.now) tables.old) }
+{
+    let parts = parts_of(alloc, t, tables.structs.as_slice())?;
+    set_by_parts(alloc, e, tables, around, t, from, items, parts)
 }
 
 /// The place of its first token.
@@ -160,15 +183,31 @@ fn set(
 ) -> Result<List<Item>, TypeFault>
     ensures { Leaves result tables.new (spec.sets x.now around t.now from items tables.old) }
 {
-    let parts = parts_of(alloc, t, tables.structs.as_slice())?;
     match x {
-        Initial::Assign(e) => set_expression(alloc, e, tables, around, t, from, items, parts),
-        Initial::Braces(place, list) => match parts {
-            None => Err(at(28, *place)),
-            Some(parts) => {
-                set_parts(alloc, list.as_slice(), tables, around, *place, &parts, from, items)
-            }
-        },
+        Initial::Assign(e) => set_expression(alloc, e, tables, around, t, from, items),
+        Initial::Braces(place, list) => {
+            set_braces(alloc, list.as_slice(), tables, around, *place, t, from, items)
+        }
+    }
+}
+
+/// Initialisers in braces. It is E28 at the brace where a scalar is due.
+#[cycle(initials)]
+fn set_braces(
+    alloc: Global,
+    list: &[Initial],
+    tables: &mut Tables,
+    around: Around,
+    place: Place,
+    t: &CType,
+    from: u32,
+    items: List<Item>,
+) -> Result<List<Item>, TypeFault>
+    ensures { Leaves result tables.new (spec.set_braces place (map spec.setting list.now) around from items (kinds.parts_of tables.old.structs t.now) tables.old) }
+{
+    match parts_of(alloc, t, tables.structs.as_slice())? {
+        None => Err(at(28, place)),
+        Some(parts) => set_parts(alloc, list, tables, around, place, &parts, from, items),
     }
 }
 

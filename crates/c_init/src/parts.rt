@@ -1,6 +1,6 @@
 //! The parts of arrays and structs.
 
-ghost use Rattle.std.specs.Prelude.{◌≡◌, IfOk, map, option_copied};
+ghost use Rattle.std.specs.Prelude.{◌≡◌, IfOk, map, slice_get};
 ghost use Rattle.c_init.specs.Parts as spec;
 
 use c_scope::{Member, StructInfo, refreshed};
@@ -52,22 +52,22 @@ pub fn parts_of(
             len: (*len).unwrap_or(0),
         })),
         Shape::Struct { number, .. } => {
-            let slots = slots_in(alloc, structs.get(*number as usize), structs)?;
+            let slots = slots_in(alloc, *number, structs)?;
             Ok(Some(Parts::Members(slots)))
         }
         _ => Ok(None),
     }
 }
 
-/// The members of a struct.
+/// The members of the struct of this number.
 fn slots_in(
     alloc: Global,
-    info: Option<&StructInfo>,
+    number: u32,
     structs: &[StructInfo],
 ) -> Result<List<Slot>, NoMemory>
-    ensures { IfOk result (λ r. r ≡ spec.slots_in structs.now (option_copied info.entry)) }
+    ensures { IfOk result (λ r. r ≡ spec.slots_in structs.now (slice_get structs.now number)) }
 {
-    match info {
+    match structs.get(number as usize) {
         Some(info) => slots(alloc, info.members.as_slice(), structs),
         None => Ok(List::new(alloc)),
     }
