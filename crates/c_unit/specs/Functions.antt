@@ -1,5 +1,5 @@
 -- Functions that a unit defines (C11 6.9.1): the rules of their headings, their parameters and bodies, and the limits of the whole.
-use Rattle.std.specs.Prelude.{ℕ, ◌-◌, Bool, true, false, cond, nat_lt, List, [], ◌∷◌, take, drop, length, slice_get, option_and_then, Option, Some, None, Ok}
+use Rattle.std.specs.Prelude.{ℕ, ◌-◌, ◌&&◌, Bool, true, false, cond, nat_lt, List, [], ◌∷◌, take, drop, length, slice_get, option_and_then, Option, Some, None, Ok}
 use Rattle.cm_base.specs.declared.place.Place.{Place}
 use Rattle.c_ast.specs.declared.expr.Declarator.{Declarator}
 use Rattle.c_ast.specs.declared.expr.Name.{Name}
@@ -14,7 +14,7 @@ use Rattle.c_tree.specs.declared.program.TFunction.{TFunction}
 use Rattle.c_tree.specs.declared.program.TLocal.{TLocal}
 use Rattle.c_tree.specs.declared.stmt.Stmt.{Stmt}
 use Rattle.c_tree.specs.Nodes.{function_nodes}
-use Rattle.c_tree.specs.Slots.{placed_bytes, slots}
+use Rattle.c_tree.specs.Slots.{all_fit, placed_bytes, slots}
 use Rattle.c_rows.specs.Answers.{Checked, ◌>>=◌, fault}
 use Rattle.cmse_rules.specs.declared.attributes.Subject.TheVariants as on
 use Rattle.cmse_rules.specs.Entry.{entry_rule}
@@ -107,12 +107,16 @@ abbrev pub function_of : Name → CType → State → ℕ → Stmt → List TLoc
 function_of name t st many x locals =
     record { name = name.text; unit = name.place.unit; ctype = t; entry = st.is_entry; is_static = st.is_static; params = take many locals; locals = drop many locals; body = x; place = name.place }
 
+-- whether its placed locals have too many bytes; no type of a declared local is too large
+abbrev pub is_too_large : TFunction → Bool
+is_too_large f = all_fit f.locals && nat_lt 16384 (placed_bytes f)
+
 -- nodes, slots, and bytes of placed locals
 abbrev pub within_limits : TFunction → Checked TFunction
 within_limits f =
     refuse (nat_lt 2000 (function_nodes f)) 50 f.place (
     refuse (nat_lt 900 (slots f)) 53 f.place (
-    refuse (nat_lt 16384 (placed_bytes f)) 55 f.place (Ok f)))
+    refuse (is_too_large f) 55 f.place (Ok f)))
 
 abbrev pub with_body : Name → CType → State → List Param → Block → Step TFunction
 with_body name t st ps b s =

@@ -1,7 +1,8 @@
 //! Functions with their bodies.
 
-ghost use Rattle.std.specs.Prelude.{◌≡◌, IfOk, IsTrue, Some, option_copied, slice_get};
-ghost use Rattle.c_tree.specs.Slots.{all_fit};
+ghost use Rattle.std.specs.Prelude.{◌≡◌, ◌≤◌, IfOk, option_copied};
+ghost use Rattle.c_tree.specs.Nodes.{function_nodes};
+ghost use Rattle.c_tree.specs.Slots as sizes;
 ghost use Rattle.c_rows.specs.Answers.{Gives};
 ghost use Rattle.c_scope.specs.Steps.{Leaves};
 ghost use Rattle.c_unit.specs.Functions as spec;
@@ -24,7 +25,7 @@ use std::mem;
 fn own_params(derivations: &[Derivation]) -> Option<&List<Param>>
     ensures { option_copied result ≡ spec.own_params derivations.now }
 {
-    match derivations.get(derivations.len().saturating_sub(1)) {
+    match derivations.last() {
         Some(Derivation::Function(params)) => Some(params),
         _ => None,
     }
@@ -146,10 +147,24 @@ fn function_of(
     })
 }
 
+/// Whether no local's type is too large.
+fn all_fit(locals: &[TLocal]) -> bool
+    ensures { result ≡ sizes.all_fit locals.now }
+{
+    locals.iter().all(|local| local.ctype.fits())
+}
+
+/// Whether the placed locals have more than 16,384 bytes.
+fn is_too_large(f: &TFunction) -> bool
+    requires { function_nodes f.now ≤ 2000 }
+    ensures { result ≡ spec.is_too_large f.now }
+{
+    all_fit(f.locals.as_slice()) && placed_bytes(f) > 16384
+}
+
 /// A function within the limits. At its name it is E50 where it has more than 2,000 nodes, E53 where it has more than 900 slots,
 /// and E55 where its placed locals have more than 16,384 bytes.
 fn within_limits(f: TFunction) -> Result<TFunction, TypeFault>
-    requires { IsTrue (all_fit f.locals) }
     ensures { Gives result (spec.within_limits f) }
 {
     if function_nodes(&f) > 2000 {
@@ -158,7 +173,7 @@ fn within_limits(f: TFunction) -> Result<TFunction, TypeFault>
     if slots(&f) > 900 {
         return Err(at(53, f.place));
     }
-    if placed_bytes(&f) > 16384 {
+    if is_too_large(&f) {
         return Err(at(55, f.place));
     }
     Ok(f)
