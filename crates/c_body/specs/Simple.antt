@@ -1,5 +1,5 @@
 -- Statements that hold no others, the heads of those that do, and labels (C11 6.8).
-use Rattle.std.specs.Prelude.{ℕ, Bool, not, ◌||◌, cond, List, [], ◌∷◌, Option, Some, None, Ok}
+use Rattle.std.specs.Prelude.{Bool, not, ◌||◌, cond, List, [], ◌∷◌, Option, Some, None, Ok}
 use Rattle.cm_base.specs.declared.place.Place.{Place}
 use Rattle.c_ast.specs.Places.{first_place}
 use Rattle.c_ast.specs.declared.expr.Expr.{Expr as Tree}

@@ -1,5 +1,5 @@
 -- What is around a statement, and what functions answer that add to what they are lent.
-use Rattle.std.specs.Prelude.{◌≡◌, Bool, true, false, Ok, Err}
+use Rattle.std.specs.Prelude.{◌≡◌, true, false, Ok, Err}
 use Rattle.c_check.specs.declared.around.Around.{Around}
 use Rattle.c_check.specs.Formed.{inside}
 use Rattle.c_rows.specs.Answers.{Checked, Fails}

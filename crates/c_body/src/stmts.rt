@@ -38,11 +38,7 @@ fn for_of(alloc: Global, head: Head, body: Shared<Stmt>) -> Result<Shared<Stmt>,
 }
 
 /// `switch`, of its value and its parts.
-fn switch_of(
-    alloc: Global,
-    value: Shared<Expr>,
-    arms: Arms,
-) -> Result<Shared<Stmt>, TypeFault>
+fn switch_of(alloc: Global, value: Shared<Expr>, arms: Arms) -> Result<Shared<Stmt>, TypeFault>
     ensures { Gives result (Ok (spec.switch_of value arms)) }
 {
     let Arms { parts, .. } = arms;
