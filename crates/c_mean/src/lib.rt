@@ -3,5 +3,7 @@
 
 mod flow;
 pub mod laws;
+mod spot;
 
 pub use flow::Flow;
+pub use spot::Spot;

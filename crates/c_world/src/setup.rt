@@ -1,0 +1,240 @@
+//! What stays as it is through a run.
+
+ghost use Rattle.std.specs.Prelude.{◌≡◌, ◌≤◌, ◌∷◌, [], ℕ, List, Some, All, IfOk, IsTrue, drop, length, map, option_copied, option_map, option_and_then, slice_get, slice_index};
+ghost use Rattle.ns_types.specs.Boundary.{goes_of, goes_outside};
+ghost use Rattle.ns_types.specs.Veneers.{enters_of, place_of};
+ghost use Rattle.c_mean.specs.Calls.{entry_functions};
+ghost use Rattle.c_mean.specs.Homes as homes;
+ghost use Rattle.c_tree.specs.Conditions as conditions;
+ghost use Rattle.c_tree.specs.Nodes.{function_nodes};
+ghost use Rattle.c_world.specs.Here as around;
+ghost use Rattle.c_world.specs.Plans.{plan_of};
+ghost use Rattle.c_world.specs.Setups as spec;
+ghost use Rattle.c_world.specs.declared.plan.At.{At};
+ghost use Rattle.c_world.specs.declared.plan.Plan.{Plan};
+
+use crate::plan::{At, Plan};
+use c_homes::homes;
+use c_memory::{align, is_nonsecure, is_secure};
+use c_names::Ident;
+use c_tree::{Program, TFunction};
+use cm_base::{List, NoMemory};
+use ns_types::{Goes, Turn, Veneer, Veneers};
+use std::alloc::Global;
+use std::marker::Model;
+
+/// A veneer's address, and the entry that it enters by its place among the program's entries.
+#[derive(Clone, Copy, Debug, PartialEq, Eq)]
+pub struct Door {
+    pub address: u32,
+    pub entry: Option<u32>,
+}
+
+/// A program with the veneers of its entries, the turns of a script and the bound on turns, and what is worked out of them once.
+#[derive(Drop)]
+pub struct Setup<'a> {
+    program: &'a Program,
+    veneers: &'a Veneers,
+    script: &'a [Turn],
+    turns: u32,
+    plans: List<Plan>,
+    /// The numbers of the entry functions among all functions.
+    entries: List<u32>,
+    /// Where each global stands.
+    homes: List<u32>,
+    doors: List<Door>,
+}
+
+impl Model for Setup<'_> {
+    ghost use Rattle.c_world.specs.Setups as spec;
+
+    ghost Value = { spec.Setup };
+
+    ghost view = { λ s. record { program = s.program.now; veneers = s.veneers.now.list; script = s.script.now; turns = s.turns } };
+
+    ghost invariant = { λ s. spec.AreReady s.program.now s.veneers.now.list s.plans s.entries s.homes s.doors };
+}
+
+/// The place of a name among names, the first one where it stands more than once.
+fn place_of(names: &[Ident], name: &[u8]) -> Option<u32>
+    requires { length names.now ≤ 512 }
+    ensures { result ≡ place_of names.now name.now }
+{
+    let mut n: u32 = 0;
+    for other in names {
+        if other.as_slice() == name {
+            return Some(n);
+        }
+        n += 1;
+    }
+    None
+}
+
+/// The doors of veneers.
+fn doors_of(alloc: Global, entries: &[Ident], veneers: &[Veneer]) -> Result<List<Door>, NoMemory>
+    requires { length entries.now ≤ 512 }
+    ensures { IfOk result (λ doors. doors ≡ map (spec.door_of entries.now) veneers.now) }
+{
+    let mut doors = List::new(alloc);
+    for v in veneers {
+        let entry = place_of(entries, v.name.as_slice());
+        doors.push(Door {
+            address: v.address,
+            entry,
+        })?;
+    }
+    Ok(doors)
+}
+
+/// The plans of functions.
+fn plans_of(alloc: Global, functions: &[TFunction]) -> Result<List<Plan>, NoMemory>
+    requires { All (λ f. function_nodes f ≤ 2000) functions.now }
+    ensures { IfOk result (λ plans. plans ≡ map plan_of functions.now) }
+{
+    let mut plans = List::new(alloc);
+    for f in functions {
+        plans.push(Plan::new(alloc, f)?)?;
+    }
+    Ok(plans)
+}
+
+/// The numbers of the entry functions.
+fn entries_of(alloc: Global, functions: &[TFunction]) -> Result<List<u32>, NoMemory>
+    requires { length functions.now ≤ 16000 }
+    ensures { IfOk result (λ entries. entries ≡ spec.entry_numbers 0 functions.now) }
+{
+    let mut entries = List::new(alloc);
+    let mut n: u32 = 0;
+    for f in functions {
+        if f.entry {
+            entries.push(n)?;
+        }
+        n += 1;
+    }
+    Ok(entries)
+}
+
+/// The entry that stands at an address.
+fn entry_at(doors: &[Door], a: u32) -> Option<u32>
+    ensures { result ≡ spec.entry_at doors.now a }
+{
+    for door in doors {
+        if a == door.address {
+            return door.entry;
+        }
+    }
+    None
+}
+
+/// Where a branch goes to an even address where no entry stands.
+fn goes_outside(a: u32) -> Goes
+    ensures { result ≡ goes_outside a }
+{
+    if a == 0xFEFF_FFFE {
+        Goes::Return
+    } else if is_nonsecure(a) {
+        Goes::Turn
+    } else if is_secure(a) {
+        Goes::EntryPoint
+    } else {
+        Goes::Astray
+    }
+}
+
+impl<'a> Setup<'a> {
+    /// Works out what a run needs to know.
+    pub fn new(
+        alloc: Global,
+        program: &'a Program,
+        veneers: &'a Veneers,
+        script: &'a [Turn],
+        turns: u32,
+    ) -> Result<Setup<'a>, NoMemory>
+        ensures { IfOk result
+            (λ s. s ≡ record { program = program.now; veneers = veneers.now.list; script = script.now; turns = turns }) }
+    {
+        program.within();
+        let functions = program.functions.as_slice();
+        let plans = plans_of(alloc, functions)?;
+        let entries = entries_of(alloc, functions)?;
+        let homes = homes(alloc, program.globals.as_slice())?;
+        let doors = doors_of(alloc, program.entries.as_slice(), veneers.list.as_slice())?;
+        Ok(Setup {
+            program,
+            veneers,
+            script,
+            turns,
+            plans,
+            entries,
+            homes,
+            doors,
+        })
+    }
+
+    /// The function with this number.
+    pub fn function(&self, n: Option<u32>) -> Option<&TFunction>
+        ensures { option_copied result ≡ spec.function_at self.now n }
+    {
+        match n {
+            Some(n) => self.program.functions.get(n as usize),
+            None => None,
+        }
+    }
+
+    /// The plan of a function, by its number.
+    pub fn plan(&self, n: Option<u32>) -> Option<&Plan>
+        ensures { option_copied result ≡ option_map plan_of (spec.function_at self.now n) }
+    {
+        match n {
+            Some(n) => self.plans.get(n as usize),
+            None => None,
+        }
+    }
+
+    /// The number of the function of an entry.
+    pub fn entry(&self, e: u32) -> Option<u32>
+        ensures { spec.function_at self.now result ≡ slice_get (entry_functions self.now.program) e }
+    {
+        match self.entries.get(e as usize) {
+            Some(n) => Some(*n),
+            None => None,
+        }
+    }
+
+    /// Where a global stands.
+    #[tactic(auto, unfolding(crate::specs::Here::here))]
+    pub fn home(&self, n: u32) -> u32
+        ensures { (plan : Plan) (at : At) → result ≡ slice_index (around.here self.now plan at).globals n }
+    {
+        match self.homes.get(n as usize) {
+            Some(a) => *a,
+            None => 0,
+        }
+    }
+
+    /// Where a branch goes; bit 0 of the target is ignored.
+    #[tactic(auto, unfolding(ns_types::specs::Boundary::goes_of))]
+    pub fn goes(&self, target: u32) -> Goes
+        ensures { result ≡ goes_of (spec.enters self.now) target }
+    {
+        let a = align(2, target);
+        match entry_at(self.doors.as_slice(), a) {
+            Some(e) => Goes::Enter(e),
+            None => goes_outside(a),
+        }
+    }
+
+    /// How many turns each loop may take, and how many entries are entered after one turn of the script.
+    pub fn turns(&self) -> u32
+        ensures { result ≡ self.now.turns }
+    {
+        self.turns
+    }
+
+    /// The turns of the script.
+    pub fn script(&self) -> &[Turn]
+        ensures { result.now ≡ self.now.script }
+    {
+        self.script
+    }
+}
