@@ -1,13 +1,14 @@
 //! Blocks of the data stack.
 
-ghost use Rattle.std.specs.Prelude.{◌≡◌, ◌≤◌, ◌+◌, ◌^◌, ◌<◌, IfOk, OnOk, IsTrue, List, ℕ, length};
+ghost use Rattle.std.specs.Prelude.{◌≡◌, ◌≤◌, ◌+◌, ◌<◌, ◌||◌, false, IfOk, OnOk, List, ℕ, length, slice_index_or};
 ghost use Rattle.c_homes.specs.Blocks as spec;
 ghost use Rattle.c_mean.specs.Homes.{block_bytes, block_of, with_local};
 ghost use Rattle.c_tree.specs.Nodes.{function_nodes};
-ghost use Rattle.c_tree.specs.Placed.{AreMarks};
+ghost use Rattle.c_tree.specs.Placed.{AreMarks, is_aggregate};
 
-use crate::globals::begins;
-use c_tree::{Marks, TFunction, TLocal, bytes_of, is_placed, marks_of, round_up};
+use crate::globals::{begins, bytes_of, round_up};
+use crate::marks::{Marks, marks_of};
+use c_tree::{TFunction, TLocal};
 use cm_base::{List, NoMemory};
 use std::alloc::Global;
 
@@ -17,6 +18,14 @@ pub struct Block {
     /// Where each parameter and local stands in it, parameters first, if it is placed.
     pub offsets: List<Option<u32>>,
     pub bytes: u32,
+}
+
+/// Whether a local is placed that is local n.
+fn is_placed(x: &TLocal, n: usize, marks: &Marks) -> bool
+    requires { n < 2048 }
+    ensures { result ≡ (is_aggregate x.now.ctype || slice_index_or marks.now.set n false) }
+{
+    x.ctype.is_array() || x.ctype.is_struct() || marks.has(n)
 }
 
 /// Places a parameter or local, or says that it isn't placed. Its type is too large for the data stack only where there is no

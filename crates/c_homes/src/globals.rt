@@ -1,13 +1,39 @@
 //! Globals.
 
-ghost use Rattle.std.specs.Prelude.{◌≡◌, ◌+◌, ◌^◌, ◌<◌, ◌≤◌, ◌++◌, IfOk, IsTrue, OnOk, length, replicate};
+ghost use Rattle.std.specs.Prelude.{◌≡◌, ◌+◌, ◌*◌, ◌^◌, ◌<◌, ◌≤◌, ◌++◌, false, IfOk, IsTrue, OnOk, length, replicate};
 ghost use Rattle.c_mean.specs.Homes as spec;
+ghost use Rattle.c_tree.specs.Globals as globals;
 ghost use Rattle.c_tree.specs.Globals.{all_fit, globals_bytes};
+ghost use Rattle.c_tree.specs.Slots as slots;
+ghost use Rattle.c_types.specs.Sizes.{fits};
+ghost use Rattle.std.specs.List.{filter, fold};
 
-use c_tree::{TGlobal, end_after, end_of, globals_bytes, round_up};
-use c_types::{CType, type_align};
+use c_tree::{TGlobal, globals_bytes};
+use c_types::{CType, type_align, type_size};
 use cm_base::{Bytes, List, NoMemory, SECURE_DATA};
 use std::alloc::Global;
+
+/// The least multiple of n that isn't below a number.
+pub fn round_up(at: u64, n: u64) -> u64
+    requires positive { 0 < n }
+    requires small { (at < 2 ^ 50) × (n < 2 ^ 32) }
+    ensures value { result ≡ globals.round_up at n }
+    ensures near { (at ≤ result) × (result < at + n) }
+{
+    at + (n - at % n) % n
+}
+
+/// The bytes of an object of this type.
+pub fn bytes_of(t: &CType) -> u64
+    requires { IsTrue (fits t.now) }
+    ensures value { result ≡ slots.bytes_of t.now }
+    ensures near { result < 2 ^ 32 }
+{
+    match type_size(t) {
+        Some(size) => size as u64,
+        None => 0,
+    }
+}
 
 /// Where an object of a type begins that stands behind so many bytes.
 pub fn begins(at: u64, t: &CType) -> u64
@@ -20,6 +46,32 @@ pub fn begins(at: u64, t: &CType) -> u64
         None => 1,
     };
     round_up(at, align.max(1))
+}
+
+/// Where a global ends that stands behind so many bytes.
+fn end_after(g: &TGlobal, at: u64) -> u64
+    requires fits { IsTrue (fits g.now.ctype) }
+    requires small { at < 2 ^ 50 }
+    ensures value { result ≡ globals.end_after at g.now }
+    ensures near { result ≤ at + 2 ^ 33 }
+{
+    begins(at, &g.ctype) + bytes_of(&g.ctype)
+}
+
+/// Where the last global ends that isn't left as it is at the start.
+fn end_of(list: &[TGlobal]) -> u64
+    requires few { length list.now ≤ 16000 }
+    requires types { IsTrue (all_fit list.now) }
+    ensures value { result ≡ fold globals.end_after 0 (filter (globals.stands false) list.now) }
+    ensures near { result ≤ 16000 * 2 ^ 33 }
+{
+    let mut at: u64 = 0;
+    for g in list {
+        if !g.noinit {
+            at = end_after(g, at);
+        }
+    }
+    at
 }
 
 /// Where a global stands behind so many bytes of Secure data.
@@ -41,7 +93,7 @@ pub fn homes(alloc: Global, globals: &[TGlobal]) -> Result<List<u32>, NoMemory>
 {
     let mut list = List::new(alloc);
     let mut at: u64 = 0;
-    let mut left = end_of(globals, false, 0);
+    let mut left = end_of(globals);
     for g in globals {
         if g.noinit {
             list.push(home(left, g)?)?;

@@ -4,6 +4,7 @@
 
 mod block;
 mod globals;
+mod marks;
 
 pub use block::{Block, block_of};
-pub use globals::{contents, data_stack, homes};
+pub use globals::{bytes_of, contents, data_stack, homes};

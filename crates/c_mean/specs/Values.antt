@@ -10,8 +10,6 @@ use Rattle.c_types.specs.declared.ctype.CType.{CType}
 use Rattle.c_types.specs.Arithmetic.{arith_size}
 use Rattle.c_types.specs.Kind.{arithmetic, is_void}
 use Rattle.c_const.specs.Operate.{narrowed}
-pub use Rattle.c_mean.specs.declared.spot.Spot.{Spot}
-pub use Rattle.c_mean.specs.declared.spot.Spot.TheVariants.{Unplaced, At}
 use Rattle.c_mean.specs.Parts.{Out, Has, Part, then_with, halt, or_halt}
 
 -- ---- values
@@ -37,6 +35,10 @@ abbrev pub value_size : CType → ℕ
 value_size t = size_as (arithmetic t)
 
 -- ---- places
+
+pub data Spot : Type 0 where
+  Unplaced : ℕ → Spot
+  At : ℕ → Spot
 
 -- the spot of local n, by where it stands in the block at this address, if it does
 abbrev pub spot_in : ℕ → Option (Option ℕ) → ℕ → Spot

@@ -3,7 +3,5 @@
 
 mod flow;
 pub mod laws;
-mod spot;
 
 pub use flow::Flow;
-pub use spot::Spot;

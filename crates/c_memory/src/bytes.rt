@@ -3,7 +3,7 @@
 ghost use Rattle.std.specs.Prelude.{◌≡◌, ◌+◌, ◌^◌, ◌<◌, ◌≤◌, length, IsTrue};
 ghost use Rattle.ns_types.specs.Memory.{byte_at, half_at, word_at, number_at, put_byte, put_half, put_word, put_number};
 ghost use Rattle.c_memory.specs.Writes.{is_size};
-ghost use Rattle.c_mean.specs.Homes.{zeroed};
+ghost use Rattle.c_memory.specs.Zeros.{zeroed};
 
 #[tactic(auto, unfolding(ns_types::specs::Memory::byte_at))]
 fn get_byte(bytes: &[u8], o: usize) -> u32
@@ -21,8 +21,9 @@ fn get_half(bytes: &[u8], o: usize) -> u32
     bytes[o] as u32 + 0x100 * bytes[o + 1] as u32
 }
 
+/// The word at a place.
 #[tactic(auto, unfolding(ns_types::specs::Memory::word_at))]
-fn get_word(bytes: &[u8], o: usize) -> u32
+pub fn word_at(bytes: &[u8], o: usize) -> u32
     requires { o + 4 ≤ length bytes.now }
     ensures { result ≡ word_at bytes.now o }
 {
@@ -39,7 +40,7 @@ pub fn get_number(bytes: &[u8], o: usize, size: u8) -> u32
     ensures { result ≡ number_at size bytes.now o }
 {
     match size {
-        4 => get_word(bytes, o),
+        4 => word_at(bytes, o),
         2 => get_half(bytes, o),
         _ => get_byte(bytes, o),
     }

@@ -4,7 +4,7 @@ ghost use Rattle.ns_types.specs.Boundary.{acted, item_stop, with_item};
 ghost use Rattle.ns_types.specs.Memory.{IsStart, load, memory_of, secure_ram_size, store};
 ghost use Rattle.ns_types.specs.Platform.{in_row, row};
 ghost use Rattle.ns_types.specs.State.{device_of};
-ghost use Rattle.c_mean.specs.Homes.{cleared, with_data};
+ghost use Rattle.c_memory.specs.Zeros.{cleared, with_data};
 ghost use Rattle.c_memory.specs.Writes.{Writes, is_size};
 
 use crate::access::{is_in_ns_ram, item_stop, may_read, may_write};

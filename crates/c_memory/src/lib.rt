@@ -6,4 +6,5 @@ mod bytes;
 mod flat;
 
 pub use access::{align, is_in_ns_rom, is_nonsecure, is_secure};
+pub use bytes::word_at;
 pub use flat::Flat;

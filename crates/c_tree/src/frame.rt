@@ -18,7 +18,7 @@ fn is_aggregate(t: &CType) -> bool
 }
 
 /// Whether a local is placed that is local n.
-pub fn is_placed(local: &TLocal, n: usize, marks: &Marks) -> bool
+fn is_placed(local: &TLocal, n: usize, marks: &Marks) -> bool
     requires { n < 2048 }
     ensures { result ≡ (is_aggregate local.now.ctype || slice_index_or marks.now.set n false) }
 {

@@ -8,8 +8,7 @@ use crate::frame::bytes_of;
 use crate::program::TGlobal;
 use c_types::type_align;
 
-/// The least multiple of n that isn't below a number.
-pub fn round_up(at: u64, n: u64) -> u64
+fn round_up(at: u64, n: u64) -> u64
     requires positive { 0 < n }
     requires small { (at < 2 ^ 50) × (n < 2 ^ 32) }
     ensures value { result ≡ spec.round_up at n }
@@ -19,7 +18,7 @@ pub fn round_up(at: u64, n: u64) -> u64
 }
 
 /// Where a global ends that stands behind so many bytes.
-pub fn end_after(g: &TGlobal, at: u64) -> u64
+fn end_after(g: &TGlobal, at: u64) -> u64
     requires fits { IsTrue (fits g.now.ctype) }
     requires small { at < 2 ^ 50 }
     ensures value { result ≡ spec.end_after at g.now }
@@ -33,7 +32,7 @@ pub fn end_after(g: &TGlobal, at: u64) -> u64
 }
 
 /// Where the last of those globals ends that are, or aren't, left as they are at the start.
-pub fn end_of(globals: &[TGlobal], noinit: bool, from: u64) -> u64
+fn end_of(globals: &[TGlobal], noinit: bool, from: u64) -> u64
     requires few { length globals.now ≤ 16000 }
     requires fits { IsTrue (spec.all_fit globals.now) }
     requires small { from < 2 ^ 48 }

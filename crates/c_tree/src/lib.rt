@@ -12,9 +12,8 @@ mod stmt;
 
 pub use depth::function_depth;
 pub use expr::{BinOp, Expr, ExprKind, UnOp};
-pub use frame::{bytes_of, is_placed, placed_bytes, slots};
-pub use globals::{end_after, end_of, globals_bytes, round_up};
-pub use marks::{Marks, marks_of};
+pub use frame::{placed_bytes, slots};
+pub use globals::globals_bytes;
 pub use nodes::{function_nodes, program_nodes};
 pub use program::{Extern, Program, TFunction, TGlobal, TLocal, TUnit};
 pub use stmt::{Item, Part, Stmt};

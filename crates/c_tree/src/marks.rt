@@ -9,7 +9,7 @@ use cm_base::Shared;
 /// One mark for each local that a function within the limit on nodes can have.
 #[derive(Drop)]
 pub struct Marks {
-    pub set: [bool; 2048],
+    set: [bool; 2048],
 }
 
 impl Marks {

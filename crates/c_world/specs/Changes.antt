@@ -10,6 +10,8 @@ use Rattle.c_tree.specs.declared.program.TLocal.{TLocal}
 use Rattle.c_mean.specs.Parts.{Part, Has, then_with, or_halt}
 use Rattle.c_mean.specs.Values.{Spot, converted, read_spot, write_spot, written, value_size}
 use Rattle.c_mean.specs.Exprs.{changed, constant}
+use Rattle.c_mean.specs.Homes.{cleared}
+use Rattle.ns_types.specs.CRun.{World}
 
 abbrev pub pointed : CType → Option CType
 pointed t = referenced t
@@ -29,6 +31,10 @@ abbrev pub step : CType → Spot → ℕ → Bool → Part ℕ
 step t s by old l w =
     then_with (read_spot t s l w) (λ x m u.
     then_with (write_spot t s (converted t (ops.add x by)) m u) (λ y. constant (cond old x y)))
+
+-- a world whose memory has zeros at the block of an activation
+abbrev pub cleared_in : ℕ → ℕ → World → World
+cleared_in block n w = record w { memory = cleared block n w.memory }
 
 -- the first value of a parameter, by its argument
 abbrev pub parameter : Bool → TLocal → Option ℕ → ℕ

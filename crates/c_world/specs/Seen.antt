@@ -11,6 +11,9 @@ use Rattle.c_mean.specs.Parts.{Out, Has, Ends}
 use Rattle.c_world.specs.declared.halt.Halt.{Halt}
 use Rattle.c_world.specs.declared.halt.Halt.TheVariants as halts
 use Rattle.c_world.specs.declared.live.Live.{Live}
+use Rattle.c_world.specs.declared.spot.Spot.{Spot}
+use Rattle.c_world.specs.declared.spot.Spot.TheVariants as spots
+use Rattle.c_mean.specs.Values as values
 
 -- the world that the evaluator keeps, where the script has these turns
 unfoldable pub seen : List Turn → Live → World
@@ -46,6 +49,21 @@ Gives (Err h) w out = IsOver h w out
 abbrev pub IsStop : Halt → Stop → World → World → Type 0
 IsStop halts.NoMemory why old new = Unit {0}
 IsStop (halts.Over e) why old new = (e ≡ end.Stopped) × (new ≡ emit_plain (c.Stopped why) old)
+
+-- a place, as the meaning has it
+abbrev pub spot_of : Spot → values.Spot
+spot_of (spots.Unplaced n) = values.Unplaced n
+spot_of (spots.At a) = values.At a
+
+-- what a part gives that is a place
+abbrev pub Places : Result Spot Halt → List ℕ → World → Out values.Spot → Type 0
+Places (Ok x) l w out = out ≡ Has (spot_of x) l w
+Places (Err h) l w out = Stops h w out
+
+abbrev pub IsSpot : Result Spot Halt → values.Spot → Type 0
+IsSpot (Ok x) y = spot_of x ≡ y
+IsSpot (Err halts.NoMemory) y = Unit {0}
+IsSpot (Err (halts.Over e)) y = ⊥
 
 -- where there was memory
 abbrev pub IfGiven : {A : Type 0} → Result A Halt → A → Type 0

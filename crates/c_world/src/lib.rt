@@ -8,13 +8,17 @@ mod places;
 mod plan;
 mod range;
 mod setup;
+mod spot;
 
 pub use halt::Halt;
-pub use live::{Live, emit_called, emit_result, reach, stop, take_turn};
-pub use operate::{
-    difference, operated, pointer_sum, skipped, stopped_at, tested, truth,
+pub use live::{
+    Live, clear, count, emit_called, emit_result, first_four, kept_of, reach, stop, take_turn,
 };
-pub use places::{change, first_values, home_params, read, spot_in, step, write};
-pub use plan::{At, Gives, Plan, converted, finished};
+pub use operate::{difference, operated, pointer_sum, skipped, tested, truth};
+pub use places::{
+    address, caller, change, first_values, home_params, local_spot, moved, read, returned, step, write,
+};
+pub use plan::{At, Gives, Plan, converted};
 pub use range::checked_range;
 pub use setup::Setup;
+pub use spot::Spot;

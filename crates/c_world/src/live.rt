@@ -1,10 +1,11 @@
 //! The world of a run.
 
-ghost use Rattle.std.specs.Prelude.{◌≡◌, ◌+◌, ◌<◌, List, drop};
+ghost use Rattle.std.specs.Prelude.{◌≡◌, ◌+◌, ◌<◌, List, drop, take};
 ghost use Rattle.ns_types.specs.declared.event.CEvent.TheVariants as c;
 ghost use Rattle.ns_types.specs.Boundary.{eight_zeros, kept_of};
 ghost use Rattle.ns_types.specs.CRun as crun;
 ghost use Rattle.ns_types.specs.Turns as turns;
+ghost use Rattle.c_world.specs.Changes as changes;
 ghost use Rattle.c_world.specs.Seen as spec;
 
 use crate::halt::Halt;
@@ -107,4 +108,29 @@ pub fn kept_of(turn: &Turn) -> [u32; 8]
 {
     let r = &turn.r;
     [r[4], r[5], r[6], r[7], r[8], r[9], r[10], r[11]]
+}
+
+/// r0 to r3 in a turn.
+pub fn first_four(turn: &Turn) -> [u32; 4]
+    ensures { result ≡ take 4 turn.now.r }
+{
+    let r = &turn.r;
+    [r[0], r[1], r[2], r[3]]
+}
+
+/// One entry more since the last turn or the start.
+#[tactic(auto, unfolding(crate::specs::Seen::seen))]
+pub fn count(live: &mut Live)
+    requires { live.old.entries < 4294967295 }
+    ensures { (script : List turns.Turn) → spec.seen script live.new ≡ crun.counted (spec.seen script live.old) }
+{
+    live.entries += 1;
+}
+
+/// The block of an activation is cleared.
+#[tactic(auto, using(crate::proofs::ClearLaws::cleared_is), unfolding(crate::specs::Seen::seen))]
+pub fn clear(live: &mut Live, block: u32, bytes: u32)
+    ensures { (script : List turns.Turn) → spec.seen script live.new ≡ changes.cleared_in block bytes (spec.seen script live.old) }
+{
+    live.memory.clear(block, bytes);
 }

@@ -4,7 +4,7 @@ ghost use Rattle.std.specs.Prelude.{◌≡◌, ℕ, List, true, not, eqb, map};
 ghost use Rattle.std.specs.List.{position_or_len};
 ghost use Rattle.c_const.specs.Constant as consts;
 ghost use Rattle.c_const.specs.Operate.{operate as operate_of};
-ghost use Rattle.c_mean.specs.Parts.{halt, or_halt};
+ghost use Rattle.c_mean.specs.Parts.{or_halt};
 ghost use Rattle.c_mean.specs.Stmts as stmts;
 ghost use Rattle.c_tree.specs.declared.expr.BinOp.TheVariants as bin;
 ghost use Rattle.ns_types.specs.Operators as ops;
@@ -15,7 +15,6 @@ use crate::halt::Halt;
 use crate::live::{Live, stop};
 use c_const::operate;
 use c_tree::{BinOp, Part};
-use cm_base::Stop;
 
 /// 1 or 0.
 pub fn truth(holds: bool) -> u32
@@ -55,14 +54,6 @@ pub fn pointer_sum(size: u32, x: u32, y: u32) -> u32
     ensures { result ≡ consts.pointer_sum size x y }
 {
     x.wrapping_add(y.wrapping_mul(size))
-}
-
-/// The run stops in an expression.
-pub fn stopped_at(live: &mut Live, why: Stop) -> Result<u32, Halt>
-    ensures { (script : List turns.Turn) (l : List ℕ)
-        → spec.Leaves result l (spec.seen script live.new) (halt why (spec.seen script live.old)) }
-{
-    Err(stop(live, why))
 }
 
 /// Whether control enters at a part of a switch for a value.

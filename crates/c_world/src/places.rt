@@ -13,13 +13,18 @@ ghost use Rattle.c_world.specs.Changes as changes;
 ghost use Rattle.c_world.specs.Here as around;
 ghost use Rattle.c_world.specs.Seen as spec;
 ghost use Rattle.c_world.specs.Setups.{Setup};
+ghost use Rattle.c_world.specs.declared.plan.At.{At};
+ghost use Rattle.c_world.specs.declared.plan.Plan.{Plan};
 
 use crate::halt::Halt;
 use crate::live::{Live, emit_plain, stop};
-use crate::plan::{At, Plan, converted};
+use crate::operate::truth;
+use crate::plan::{At, Plan, converted, finished};
 use c_const::{is_signed, operate};
-use c_mean::{Flow, Spot};
-use c_tree::{BinOp, TFunction, TLocal, bytes_of};
+use crate::spot::Spot;
+use c_mean::Flow;
+use c_homes::bytes_of;
+use c_tree::{BinOp, TFunction, TLocal};
 use c_types::{CType, arith_size, is_unsigned, promoted};
 use cm_base::{List, NoMemory};
 use ns_types::CEvent;
@@ -54,7 +59,7 @@ fn local(locals: &[u32], n: u32) -> u32
 #[tactic(auto, unfolding(crate::specs::Seen::seen))]
 pub fn read(live: &mut Live, locals: &[u32], t: &CType, spot: Spot) -> Result<u32, Halt>
     ensures { (script : List turns.Turn)
-        → spec.Leaves result locals.now (spec.seen script live.new) (values.read_spot t.now spot locals.now (spec.seen script live.old)) }
+        → spec.Leaves result locals.now (spec.seen script live.new) (values.read_spot t.now (spec.spot_of spot) locals.now (spec.seen script live.old)) }
 {
     match spot {
         Spot::Unplaced(n) => Ok(local(locals, n)),
@@ -109,7 +114,7 @@ fn set_local(locals: &mut List<u32>, n: u32, x: u32)
 /// Writes a value of a type at a place.
 pub fn write(live: &mut Live, locals: &mut List<u32>, t: &CType, spot: Spot, x: u32) -> Result<u32, Halt>
     ensures { (script : List turns.Turn)
-        → spec.Leaves result locals.new (spec.seen script live.new) (values.write_spot t.now spot x locals.old (spec.seen script live.old)) }
+        → spec.Leaves result locals.new (spec.seen script live.new) (values.write_spot t.now (spec.spot_of spot) x locals.old (spec.seen script live.old)) }
 {
     match spot {
         Spot::Unplaced(n) => {
@@ -175,7 +180,7 @@ pub fn change(
     y: u32,
 ) -> Result<u32, Halt>
     ensures { (script : List turns.Turn)
-        → spec.Leaves result locals.new (spec.seen script live.new) (changes.change op t.now right.now spot y locals.old (spec.seen script live.old)) }
+        → spec.Leaves result locals.new (spec.seen script live.new) (changes.change op t.now right.now (spec.spot_of spot) y locals.old (spec.seen script live.old)) }
 {
     let x = read(live, locals.as_slice(), t, spot)?;
     let z = changed(live, op, t, right, x, y)?;
@@ -192,17 +197,53 @@ pub fn step(
     old: bool,
 ) -> Result<u32, Halt>
     ensures { (script : List turns.Turn)
-        → spec.Leaves result locals.new (spec.seen script live.new) (changes.step t.now spot by old locals.old (spec.seen script live.old)) }
+        → spec.Leaves result locals.new (spec.seen script live.new) (changes.step t.now (spec.spot_of spot) by old locals.old (spec.seen script live.old)) }
 {
     let x = read(live, locals.as_slice(), t, spot)?;
     let y = write(live, locals, t, spot, converted(t, x.wrapping_add(by)))?;
     Ok(if old { x } else { y })
 }
 
+/// So many bytes on.
+pub fn moved(spot: Spot, offset: u32) -> Spot
+    ensures { spec.spot_of result ≡ values.moved (spec.spot_of spot) offset }
+{
+    match spot {
+        Spot::At(a) => Spot::At(a.wrapping_add(offset)),
+        Spot::Unplaced(n) => Spot::Unplaced(n),
+    }
+}
+
+/// The address of a place, and 0 where it has none.
+pub fn address(spot: Spot) -> u32
+    ensures { result ≡ values.address (spec.spot_of spot) }
+{
+    match spot {
+        Spot::At(a) => a,
+        Spot::Unplaced(_) => 0,
+    }
+}
+
+/// Whether Non-secure code called the function that is active, as a number.
+#[tactic(auto, unfolding(crate::specs::Here::here))]
+pub fn caller(at: &At) -> u32
+    ensures { (s : Setup) (plan : Plan) → result ≡ ops.truth (around.here s plan at.now).from_ns }
+{
+    truth(at.from_ns)
+}
+
+/// What `return` makes of a value.
+#[tactic(auto, unfolding(crate::specs::Here::here))]
+pub fn returned(plan: &Plan, x: u32) -> u32
+    ensures { (s : Setup) (at : At) → result ≡ (around.here s plan.now at).returned x }
+{
+    finished(plan.gives, x)
+}
+
 /// Where local n of an activation stands.
 #[tactic(auto, unfolding(crate::specs::Here::here))]
 pub fn local_spot(plan: &Plan, at: &At, n: u32) -> Result<Spot, Halt>
-    ensures { (s : Setup) → spec.IfGiven result (around.local_spot (around.here s plan.now at.now) n) }
+    ensures { (s : Setup) → spec.IsSpot result (around.local_spot (around.here s plan.now at.now) n) }
 {
     match plan.offsets.get(n as usize) {
         Some(offset) => match *offset {
@@ -219,7 +260,7 @@ pub fn local_spot(plan: &Plan, at: &At, n: u32) -> Result<Spot, Halt>
 /// A parameter that is placed is written to its home.
 fn home_param(live: &mut Live, locals: &[u32], t: &CType, spot: Spot, n: u32) -> Result<u32, Halt>
     ensures { (script : List turns.Turn)
-        → spec.Leaves result locals.now (spec.seen script live.new) (calls.homed t.now spot (slice_index locals.now n) locals.now (spec.seen script live.old)) }
+        → spec.Leaves result locals.now (spec.seen script live.new) (calls.homed t.now (spec.spot_of spot) (slice_index locals.now n) locals.now (spec.seen script live.old)) }
 {
     let x = local(locals, n);
     match spot {

@@ -225,8 +225,10 @@ impl<'a> Setup<'a> {
     }
 
     /// How many turns each loop may take, and how many entries are entered after one turn of the script.
+    #[tactic(auto, unfolding(crate::specs::Here::here))]
     pub fn turns(&self) -> u32
-        ensures { result ≡ self.now.turns }
+        ensures value { result ≡ self.now.turns }
+        ensures here { (plan : Plan) (at : At) → result ≡ (around.here self.now plan at).turns }
     {
         self.turns
     }

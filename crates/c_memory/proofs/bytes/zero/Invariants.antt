@@ -1,5 +1,5 @@
 use Rattle.std.proofs.Common.{◌≡◌, ◌+◌}
-use Rattle.c_mean.specs.Homes.{zeroed}
+use Rattle.c_memory.specs.Zeros.{zeroed}
 use Rattle.c_memory.proofs.bytes.zero.Given as goal
 
 abbrev pub invariant-loop-left : goal.invariant-loop-left

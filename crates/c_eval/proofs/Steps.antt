@@ -1,0 +1,147 @@
+-- The steps of a run, one equation each.
+use Rattle.std.proofs.Common.{◌≡◌, ◌≢◌, ℕ, zero, suc, ◌+◌, ◌<◌, ◌≤◌, Bool, true, false, cond, ltb, List, [], ◌∷◌, refl, ap, sym, ◌∙◌, rules, arith, Option, Some, None, slice_get, slice_index}
+use Rattle.std.specs.Prelude.{Result, Ok, Err}
+use Rattle.std.proofs.Math.Path.{fun_ext}
+use Rattle.ns_types.specs.Boundary.{goes_of, in_four}
+use Rattle.ns_types.specs.declared.event.End.TheVariants as end
+use Rattle.ns_types.specs.declared.goes.Goes.TheVariants as goes
+use Rattle.cm_base.specs.declared.regions.TheConstants.{SECURE_DATA}
+use Rattle.cm_base.specs.declared.stop.Stop.TheVariants.{DataStack}
+use Rattle.ns_types.specs.CRun.{World, Outcome, Over, reach, stop_with}
+use Rattle.c_types.specs.declared.arith.Arith.{Arith}
+use Rattle.c_types.specs.declared.ctype.Shape.TheOpen as shape
+use Rattle.c_types.specs.Kind.{Look, look, is_void, arithmetic}
+use Rattle.c_tree.specs.declared.expr.Expr.{Expr}
+use Rattle.c_tree.specs.declared.expr.ExprKind.TheFolds.{the_lemmas}
+use Rattle.c_tree.specs.declared.program.TFunction.{TFunction}
+use Rattle.c_mean.specs.Parts.{called, chosen, closing}
+use Rattle.c_mean.specs.Values.{converted_as}
+use Rattle.c_mean.specs.Exprs.{Around, sense}
+use Rattle.c_mean.specs.Homes.{block_bytes}
+use Rattle.c_mean.specs.Calls.{begun, first_values, inside, result, result_as, runs}
+use Rattle.c_world.specs.declared.halt.Halt.{Halt}
+use Rattle.c_world.specs.declared.halt.Halt.TheVariants as halts
+use Rattle.c_world.specs.Seen.{Gives, Leaves}
+use Rattle.c_world.specs.declared.plan.At.{At as Place}
+use Rattle.c_world.specs.declared.plan.Gives.TheVariants as gives
+use Rattle.c_world.specs.declared.plan.Plan.{Plan}
+use Rattle.c_world.specs.Here.{here, call_at}
+use Rattle.c_world.specs.Plans.{finished, gives_by, gives_of, narrowed_or, plan_of}
+use Rattle.c_world.specs.Setups.{Setup, enters}
+use Rattle.c_eval.specs.Steps.{activated, arrived, begins_at, block_end, chain_at, entry_at}
+
+pub chosen_on : {A : Type 0} (x : ℕ) (on off : A) → x ≢ 0 → chosen x on off ≡ on
+chosen_on zero on off h = absurd (h refl)
+chosen_on (suc n) on off h = refl
+
+pub sense_ctype : (e : Expr) → (sense e).ctype ≡ e.ctype
+sense_ctype e = search (rules, the_lemmas)
+
+pub here_turns : (s : Setup) (plan : Plan) (at : Place) → (here s plan at).turns ≡ s.turns
+unfolding here
+here_turns s plan at = refl
+
+pub here_call : (s : Setup) (plan : Plan) (at : Place) (n : ℕ) (args : List ℕ) (w : World) → (here s plan at).call n args w ≡ call_at s at.deep false at.load at.top (slice_get s.program.functions n) args w
+unfolding here
+here_call s plan at n args w = refl
+
+-- ---- what `return` makes of a value
+
+void_is : (v : Bool) (a : Option Arith) (x : ℕ) → finished (cond v gives.Nothing (narrowed_or a)) x ≡ cond v 0 (converted_as a x)
+void_is true a x = refl
+void_is false (Some a) x = refl
+void_is false None x = refl
+
+finished_by : (entry : Bool) (k : Look) (x : ℕ) → finished (cond entry (gives_by k) gives.Same) x ≡ cond entry (result_as k x) x
+finished_by false k x = refl
+finished_by true shape.Void x = refl
+finished_by true (shape.Arith a) x = refl
+finished_by true (shape.Pointer to) x = refl
+finished_by true (shape.Array of len) x = refl
+finished_by true (shape.Struct number name size align) x = refl
+finished_by true (shape.Function t params nonsecure) x = void_is (is_void t) (arithmetic t) x
+
+pub finished_is : (f : TFunction) (x : ℕ) → finished (gives_of f) x ≡ result f x
+finished_is f x = finished_by f.entry (look f.ctype) x
+
+-- ---- activations
+
+-- what stands around an activation, from what the evaluator keeps of it
+inside_is : (s : Setup) (d : ℕ) (from_ns : Bool) (load block : ℕ) (f : TFunction)
+    → here s (plan_of f) (record { deep = d; load = load; block = block; top = block + block_bytes f; from_ns = from_ns }) ≡ inside s.program (enters s) s.turns (call_at s d) from_ns load block f
+unfolding here
+inside_is s d from_ns load block f =
+    ap (λ (r : ℕ → ℕ). record (inside s.program (enters s) s.turns (call_at s d) from_ns load block f) { returned = r }) (fun_ext (finished_is f))
+
+-- with room for the block an activation begins, and without it the run stops
+with_room : (b : Bool) (stopped : Outcome) (goes : Outcome) (block bytes top : ℕ) → cond b None (Some (block + bytes)) ≡ Some top → cond b stopped goes ≡ goes
+with_room true stopped goes block bytes top is = cc
+with_room false stopped goes block bytes top is = refl
+
+top_is : (b : Bool) (n top : ℕ) → cond b None (Some n) ≡ Some top → n ≡ top
+top_is true n top is = cc
+top_is false n top is = cc
+
+without_room : (b : Bool) (stopped : Outcome) (goes : Outcome) (n : ℕ) → cond b None (Some n) ≡ None → cond b stopped goes ≡ stopped
+without_room true stopped goes n is = refl
+without_room false stopped goes n is = cc
+
+pub activation_begins : (s : Setup) (d : ℕ) (from_ns : Bool) (load block top : ℕ) (f : TFunction) (args : List ℕ) (w : World) → block_end block (block_bytes f) ≡ Some top
+    → activated s d from_ns load block f args w ≡ begins_at s (plan_of f) (record { deep = d; load = load; block = block; top = top; from_ns = from_ns }) f args (reach load w)
+activation_begins s d from_ns load block top f args w is =
+    with_room (ltb SECURE_DATA.to (block + block_bytes f)) _ _ block (block_bytes f) top is
+    ∙ ap (λ (a : Around). closing (runs f a (first_values f args) (begun load block (block_bytes f) w))) (sym (inside_is s d from_ns load block f))
+    ∙ ap (λ (t : ℕ). begins_at s (plan_of f) (record { deep = d; load = load; block = block; top = t; from_ns = from_ns }) f args (reach load w)) (top_is (ltb SECURE_DATA.to (block + block_bytes f)) (block + block_bytes f) top is)
+
+pub activation_stops : (s : Setup) (d : ℕ) (from_ns : Bool) (load block : ℕ) (f : TFunction) (args : List ℕ) (w : World) → block_end block (block_bytes f) ≡ None
+    → activated s d from_ns load block f args w ≡ stop_with DataStack (reach load w)
+activation_stops s d from_ns load block f args w is = without_room (ltb SECURE_DATA.to (block + block_bytes f)) _ _ (block + block_bytes f) is
+
+-- ---- calls in expressions
+
+pub leaves_called : (r : Result ℕ Halt) (l : List ℕ) (w : World) (o : Outcome) → Gives r w o → Leaves r l w (called o l)
+leaves_called (Ok x) l w o is = ap (λ (q : Outcome). called q l) is
+leaves_called (Err halts.NoMemory) l w o is = tt
+leaves_called (Err (halts.Over e)) l w o is = ap (λ (q : Outcome). called q l) is
+
+-- ---- the boundary
+
+-- a chain that enters no entry
+pub chain_returns : (s : Setup) (at : Place) (next : World → Outcome) (exit : ℕ) (kept : List ℕ) (n : ℕ) (args : List ℕ) (w : World) → chain_at s at next exit kept n goes.Return args w ≡ arrived next goes.Return (slice_index args 0) w
+chain_returns s at next exit kept zero args w = refl
+chain_returns s at next exit kept (suc n) args w = refl
+
+pub chain_turns : (s : Setup) (at : Place) (next : World → Outcome) (exit : ℕ) (kept : List ℕ) (n : ℕ) (args : List ℕ) (w : World) → chain_at s at next exit kept n goes.Turn args w ≡ arrived next goes.Turn (slice_index args 0) w
+chain_turns s at next exit kept zero args w = refl
+chain_turns s at next exit kept (suc n) args w = refl
+
+pub chain_at_secure : (s : Setup) (at : Place) (next : World → Outcome) (exit : ℕ) (kept : List ℕ) (n : ℕ) (args : List ℕ) (w : World) → chain_at s at next exit kept n goes.EntryPoint args w ≡ arrived next goes.EntryPoint (slice_index args 0) w
+chain_at_secure s at next exit kept zero args w = refl
+chain_at_secure s at next exit kept (suc n) args w = refl
+
+pub chain_astray : (s : Setup) (at : Place) (next : World → Outcome) (exit : ℕ) (kept : List ℕ) (n : ℕ) (args : List ℕ) (w : World) → chain_at s at next exit kept n goes.Astray args w ≡ arrived next goes.Astray (slice_index args 0) w
+chain_astray s at next exit kept zero args w = refl
+chain_astray s at next exit kept (suc n) args w = refl
+
+-- a chain that may enter no more entries
+pub chain_spent : (s : Setup) (at : Place) (next : World → Outcome) (exit : ℕ) (kept : List ℕ) (e : ℕ) (args : List ℕ) (w : World) → chain_at s at next exit kept 0 (goes.Enter e) args w ≡ Over end.Spent w
+chain_spent s at next exit kept e args w = refl
+
+within_bound : (b : Bool) (o p : Outcome) → b ≡ false → cond b o p ≡ p
+within_bound true o p is = cc
+within_bound false o p is = refl
+
+entered_bound : (b : Bool) (o p : Outcome) → b ≡ true → cond b o p ≡ o
+entered_bound true o p is = refl
+entered_bound false o p is = cc
+
+pub chain_full : (s : Setup) (at : Place) (next : World → Outcome) (exit : ℕ) (kept : List ℕ) (n e : ℕ) (args : List ℕ) (w : World) → s.turns ≤ w.entries → chain_at s at next exit kept n (goes.Enter e) args w ≡ Over end.Spent w
+chain_full s at next exit kept zero e args w full = refl
+chain_full s at next exit kept (suc n) e args w full = within_bound (ltb w.entries s.turns) _ _ (ltb-false _ _ full)
+
+-- an entry of a chain
+pub chain_enters : (s : Setup) (at : Place) (next : World → Outcome) (exit : ℕ) (kept : List ℕ) (n e : ℕ) (args : List ℕ) (w : World) → w.entries < s.turns
+    → chain_at s at next exit kept (suc n) (goes.Enter e) args w ≡ entry_at s at (λ r u. chain_at s at next exit kept n (goes_of (enters s) exit) (in_four (r ∷ [])) u) e args exit kept w
+chain_enters s at next exit kept n e args w less = entered_bound (ltb w.entries s.turns) _ _ (ltb-true _ _ less)
+
+pub ruleset steps = (chosen_on, sense_ctype)
