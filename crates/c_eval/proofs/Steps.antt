@@ -1,13 +1,16 @@
 -- The steps of a run, one equation each.
-use Rattle.std.proofs.Common.{◌≡◌, ◌≢◌, ℕ, zero, suc, ◌+◌, ◌<◌, ◌≤◌, Bool, true, false, cond, ltb, List, [], ◌∷◌, refl, ap, sym, ◌∙◌, rules, arith, Option, Some, None, slice_get, slice_index}
+use Rattle.std.proofs.Common.{◌≡◌, ◌≢◌, ℕ, zero, suc, ◌+◌, ◌-◌, ◌*◌, ◌<◌, ◌≤◌, Bool, true, false, cond, ltb, List, [], ◌∷◌, length, refl, ap, sym, ◌∙◌, rules, arith, Option, Some, None, slice_get, slice_index}
 use Rattle.std.specs.Prelude.{Result, Ok, Err}
 use Rattle.std.proofs.Math.Path.{fun_ext}
-use Rattle.ns_types.specs.Boundary.{goes_of, in_four}
+use Rattle.std.proofs.lemmas.Bool.{ltb-true, ltb-false}
+use Rattle.ns_types.specs.Boundary.{eight_zeros, goes_of, in_four}
 use Rattle.ns_types.specs.declared.event.End.TheVariants as end
 use Rattle.ns_types.specs.declared.goes.Goes.TheVariants as goes
 use Rattle.cm_base.specs.declared.regions.TheConstants.{SECURE_DATA}
 use Rattle.cm_base.specs.declared.stop.Stop.TheVariants.{DataStack}
-use Rattle.ns_types.specs.CRun.{World, Outcome, Over, reach, stop_with}
+use Rattle.ns_types.specs.CRun.{World, Outcome, Over, emit, mark_at, reach, stop_with, take_turn}
+use Rattle.ns_types.specs.Turns.{Turn}
+use Rattle.ns_types.specs.declared.event.CEvent.TheVariants as c
 use Rattle.c_types.specs.declared.arith.Arith.{Arith}
 use Rattle.c_types.specs.declared.ctype.Shape.TheOpen as shape
 use Rattle.c_types.specs.Kind.{Look, look, is_void, arithmetic}
@@ -18,17 +21,17 @@ use Rattle.c_mean.specs.Parts.{called, chosen, closing}
 use Rattle.c_mean.specs.Values.{converted_as}
 use Rattle.c_mean.specs.Exprs.{Around, sense}
 use Rattle.c_mean.specs.Homes.{block_bytes}
-use Rattle.c_mean.specs.Calls.{begun, first_values, inside, result, result_as, runs}
+use Rattle.c_mean.specs.Calls.{activation, begun, first_values, inside, need, result, result_as, runs}
 use Rattle.c_world.specs.declared.halt.Halt.{Halt}
 use Rattle.c_world.specs.declared.halt.Halt.TheVariants as halts
 use Rattle.c_world.specs.Seen.{Gives, Leaves}
 use Rattle.c_world.specs.declared.plan.At.{At as Place}
 use Rattle.c_world.specs.declared.plan.Gives.TheVariants as gives
 use Rattle.c_world.specs.declared.plan.Plan.{Plan}
-use Rattle.c_world.specs.Here.{here, call_at}
+use Rattle.c_world.specs.Here.{here, call_at, entering}
 use Rattle.c_world.specs.Plans.{finished, gives_by, gives_of, narrowed_or, plan_of}
 use Rattle.c_world.specs.Setups.{Setup, enters}
-use Rattle.c_eval.specs.Steps.{activated, arrived, begins_at, block_end, chain_at, entry_at}
+use Rattle.c_eval.specs.Steps.{activated, arrived, begins_at, block_end, chain_at, crossing, entry_at, phase_at}
 
 pub chosen_on : {A : Type 0} (x : ℕ) (on off : A) → x ≢ 0 → chosen x on off ≡ on
 chosen_on zero on off h = absurd (h refl)
@@ -88,6 +91,7 @@ without_room false stopped goes n is = cc
 
 pub activation_begins : (s : Setup) (d : ℕ) (from_ns : Bool) (load block top : ℕ) (f : TFunction) (args : List ℕ) (w : World) → block_end block (block_bytes f) ≡ Some top
     → activated s d from_ns load block f args w ≡ begins_at s (plan_of f) (record { deep = d; load = load; block = block; top = top; from_ns = from_ns }) f args (reach load w)
+unfolding activated begins_at
 activation_begins s d from_ns load block top f args w is =
     with_room (ltb SECURE_DATA.to (block + block_bytes f)) _ _ block (block_bytes f) top is
     ∙ ap (λ (a : Around). closing (runs f a (first_values f args) (begun load block (block_bytes f) w))) (sym (inside_is s d from_ns load block f))
@@ -95,7 +99,27 @@ activation_begins s d from_ns load block top f args w is =
 
 pub activation_stops : (s : Setup) (d : ℕ) (from_ns : Bool) (load block : ℕ) (f : TFunction) (args : List ℕ) (w : World) → block_end block (block_bytes f) ≡ None
     → activated s d from_ns load block f args w ≡ stop_with DataStack (reach load w)
+unfolding activated
 activation_stops s d from_ns load block f args w is = without_room (ltb SECURE_DATA.to (block + block_bytes f)) _ _ (block + block_bytes f) is
+
+-- ---- calls
+
+pub call_spent : (s : Setup) (from_ns : Bool) (load top : ℕ) (f : Option TFunction) (args : List ℕ) (w : World) → call_at s 0 from_ns load top f args w ≡ Over end.Spent w
+unfolding call_at
+call_spent s from_ns load top f args w = refl
+
+pub call_of_none : (s : Setup) (deep : ℕ) (from_ns : Bool) (load top : ℕ) (args : List ℕ) (w : World) → 0 < deep → call_at s deep from_ns load top None args w ≡ Over end.Stopped w
+unfolding call_at
+call_of_none s zero from_ns load top args w some = absurd (omega arith)
+call_of_none s (suc d) from_ns load top args w some = refl
+
+pub call_enters : (s : Setup) (deep : ℕ) (from_ns : Bool) (load top : ℕ) (f : TFunction) (args : List ℕ) (w : World) → 0 < deep
+    → call_at s deep from_ns load top (Some f) args w ≡ activated s (deep - 1) from_ns (load + need f) top f args w
+unfolding call_at activated
+call_enters s zero from_ns load top f args w some = absurd (omega arith)
+call_enters s (suc d) from_ns load top f args w some =
+    let e : d ≡ suc d - 1 = omega arith in
+    ap (λ (k : ℕ). activation s.program (enters s) s.turns (call_at s k) from_ns (load + need f) top f args w) e
 
 -- ---- calls in expressions
 
@@ -108,23 +132,28 @@ leaves_called (Err (halts.Over e)) l w o is = ap (λ (q : Outcome). called q l) 
 
 -- a chain that enters no entry
 pub chain_returns : (s : Setup) (at : Place) (next : World → Outcome) (exit : ℕ) (kept : List ℕ) (n : ℕ) (args : List ℕ) (w : World) → chain_at s at next exit kept n goes.Return args w ≡ arrived next goes.Return (slice_index args 0) w
+unfolding chain_at
 chain_returns s at next exit kept zero args w = refl
 chain_returns s at next exit kept (suc n) args w = refl
 
 pub chain_turns : (s : Setup) (at : Place) (next : World → Outcome) (exit : ℕ) (kept : List ℕ) (n : ℕ) (args : List ℕ) (w : World) → chain_at s at next exit kept n goes.Turn args w ≡ arrived next goes.Turn (slice_index args 0) w
+unfolding chain_at
 chain_turns s at next exit kept zero args w = refl
 chain_turns s at next exit kept (suc n) args w = refl
 
 pub chain_at_secure : (s : Setup) (at : Place) (next : World → Outcome) (exit : ℕ) (kept : List ℕ) (n : ℕ) (args : List ℕ) (w : World) → chain_at s at next exit kept n goes.EntryPoint args w ≡ arrived next goes.EntryPoint (slice_index args 0) w
+unfolding chain_at
 chain_at_secure s at next exit kept zero args w = refl
 chain_at_secure s at next exit kept (suc n) args w = refl
 
 pub chain_astray : (s : Setup) (at : Place) (next : World → Outcome) (exit : ℕ) (kept : List ℕ) (n : ℕ) (args : List ℕ) (w : World) → chain_at s at next exit kept n goes.Astray args w ≡ arrived next goes.Astray (slice_index args 0) w
+unfolding chain_at
 chain_astray s at next exit kept zero args w = refl
 chain_astray s at next exit kept (suc n) args w = refl
 
 -- a chain that may enter no more entries
 pub chain_spent : (s : Setup) (at : Place) (next : World → Outcome) (exit : ℕ) (kept : List ℕ) (e : ℕ) (args : List ℕ) (w : World) → chain_at s at next exit kept 0 (goes.Enter e) args w ≡ Over end.Spent w
+unfolding chain_at
 chain_spent s at next exit kept e args w = refl
 
 within_bound : (b : Bool) (o p : Outcome) → b ≡ false → cond b o p ≡ p
@@ -136,12 +165,41 @@ entered_bound true o p is = refl
 entered_bound false o p is = cc
 
 pub chain_full : (s : Setup) (at : Place) (next : World → Outcome) (exit : ℕ) (kept : List ℕ) (n e : ℕ) (args : List ℕ) (w : World) → s.turns ≤ w.entries → chain_at s at next exit kept n (goes.Enter e) args w ≡ Over end.Spent w
+unfolding chain_at
 chain_full s at next exit kept zero e args w full = refl
 chain_full s at next exit kept (suc n) e args w full = within_bound (ltb w.entries s.turns) _ _ (ltb-false _ _ full)
 
 -- an entry of a chain
 pub chain_enters : (s : Setup) (at : Place) (next : World → Outcome) (exit : ℕ) (kept : List ℕ) (n e : ℕ) (args : List ℕ) (w : World) → w.entries < s.turns
     → chain_at s at next exit kept (suc n) (goes.Enter e) args w ≡ entry_at s at (λ r u. chain_at s at next exit kept n (goes_of (enters s) exit) (in_four (r ∷ [])) u) e args exit kept w
+unfolding chain_at entry_at
 chain_enters s at next exit kept n e args w less = entered_bound (ltb w.entries s.turns) _ _ (ltb-true _ _ less)
+
+-- ---- whole moves
+
+pub call_out_is : (s : Setup) (plan : Plan) (at : Place) (target : ℕ) (args : List ℕ) (w : World)
+    → (here s plan at).ns_call target args w ≡ phase_at s at (length (emit (c.Called target args) (mark_at target eight_zeros w) w).turns) (emit (c.Called target args) (mark_at target eight_zeros w) w)
+unfolding here phase_at entering
+call_out_is s plan at target args w = refl
+
+turn_none : (none : Outcome) (go : Turn → List Turn → Outcome) (ts : List Turn) → ts ≡ [] → take_turn none go ts ≡ none
+turn_none none go ts e = ap (take_turn none go) e
+
+turn_some : (none : Outcome) (go : Turn → List Turn → Outcome) (ts : List Turn) (t : Turn) (rest : List Turn) → ts ≡ t ∷ rest → take_turn none go ts ≡ go t rest
+turn_some none go ts t rest e = ap (take_turn none go) e
+
+pub phase_waits : (s : Setup) (at : Place) (fuel : ℕ) (w : World) → w.turns ≡ [] → phase_at s at fuel w ≡ Over end.Waiting w
+unfolding phase_at
+phase_waits s at zero w none = turn_none (Over end.Waiting w) _ w.turns none
+phase_waits s at (suc fuel) w none = turn_none (Over end.Waiting w) _ w.turns none
+
+pub phase_spent : (s : Setup) (at : Place) (w : World) (t : Turn) (rest : List Turn) → w.turns ≡ t ∷ rest → phase_at s at 0 w ≡ Over end.Spent w
+unfolding phase_at
+phase_spent s at w t rest some = turn_some (Over end.Waiting w) (λ x xs. Over end.Spent w) w.turns t rest some
+
+pub phase_crosses : (s : Setup) (at : Place) (fuel : ℕ) (w : World) (t : Turn) (rest : List Turn) → w.turns ≡ t ∷ rest
+    → phase_at s at (suc fuel) w ≡ crossing s at (phase_at s at fuel) t rest (s.turns * suc fuel) w
+unfolding phase_at crossing chain_at
+phase_crosses s at fuel w t rest some = turn_some (Over end.Waiting w) _ w.turns t rest some
 
 pub ruleset steps = (chosen_on, sense_ctype)

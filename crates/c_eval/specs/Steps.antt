@@ -89,7 +89,7 @@ abbrev pub called_at : Setup → Plan → Place → ℕ → List ℕ → Part �
 called_at s plan at n args l w = called ((here s plan at).call n args w) l
 
 -- an activation whose need is taken already, behind which at most d functions are active
-abbrev pub activated : Setup → ℕ → Bool → ℕ → ℕ → TFunction → List ℕ → World → Outcome
+unfoldable pub activated : Setup → ℕ → Bool → ℕ → ℕ → TFunction → List ℕ → World → Outcome
 activated s d from_ns load block f args w = activation s.program (enters s) s.turns (call_at s d) from_ns load block f args w
 
 -- where a block of so many bytes ends, if the data stack has room for it
@@ -97,7 +97,7 @@ abbrev pub block_end : ℕ → ℕ → Option ℕ
 block_end block bytes = cond (ltb SECURE_DATA.to (block + bytes)) None (Some (block + bytes))
 
 -- an activation whose need and block are taken already
-abbrev pub begins_at : Setup → Plan → Place → TFunction → List ℕ → World → Outcome
+unfoldable pub begins_at : Setup → Plan → Place → TFunction → List ℕ → World → Outcome
 begins_at s plan at f args w = closing (runs f (here s plan at) (first_values f args) (cleared_in at.block plan.bytes w))
 
 -- its body, with these parameters and locals
@@ -110,10 +110,10 @@ runs_at s plan at f locals w = closing (runs f (here s plan at) locals w)
 abbrev pub called_out_at : Setup → Plan → Place → ℕ → List ℕ → Part ℕ
 called_out_at s plan at target args l w = called ((here s plan at).ns_call target args w) l
 
-abbrev pub phase_at : Setup → Place → ℕ → World → Outcome
+unfoldable pub phase_at : Setup → Place → ℕ → World → Outcome
 phase_at s at fuel w = crun.phase (enters s) (entering s at) s.turns fuel w
 
-abbrev pub chain_at : Setup → Place → (World → Outcome) → ℕ → List ℕ → ℕ → Goes → List ℕ → World → Outcome
+unfoldable pub chain_at : Setup → Place → (World → Outcome) → ℕ → List ℕ → ℕ → Goes → List ℕ → World → Outcome
 chain_at s at next exit kept n g args w = crun.chain (enters s) (entering s at) next s.turns exit kept n g args w
 
 -- A chain of entries gives a result to the newest pending call, or Non-secure code goes on with a phase, or the run is over.
@@ -123,13 +123,13 @@ Chained (Ok None) next w out = out ≡ next w
 Chained (Err h) next w out = IsOver h w out
 
 -- a turn, and the entries that it calls, at most n
-abbrev pub crossing : Setup → Place → (World → Outcome) → Turn → List Turn → ℕ → World → Outcome
+unfoldable pub crossing : Setup → Place → (World → Outcome) → Turn → List Turn → ℕ → World → Outcome
 crossing s at next t rest n w =
     stop_or (acted t.items w.memory.ns_ram).stop (turned t rest (acted t.items w.memory.ns_ram).ram w)
     (chain_at s at next (aligned 2 t.lr) (kept_of t) n (goes_of (enters s) t.target) (take 4 t.r) (turned t rest (acted t.items w.memory.ns_ram).ram w))
 
 -- an entry with its result
-abbrev pub entry_at : Setup → Place → (ℕ → World → Outcome) → ℕ → List ℕ → ℕ → List ℕ → World → Outcome
+unfoldable pub entry_at : Setup → Place → (ℕ → World → Outcome) → ℕ → List ℕ → ℕ → List ℕ → World → Outcome
 entry_at s at go e args exit kept w = then_go (entering s at e args (counted w)) (λ r u. go r (emit (c.Result e r) (mark_at exit kept u) u))
 
 abbrev pub Entered : Result ℕ Halt → (ℕ → World → Outcome) → World → Outcome → Type 0

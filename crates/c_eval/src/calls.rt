@@ -85,10 +85,7 @@ fn activate(
     ensures { world.Gives result (world.seen setup.now.script live.new)
         (spec.activated setup.now (at.now.deep - 1) from_ns (at.now.load + plan.now.need) at.now.top f.now args.now (world.seen setup.now.script live.old)) }
 {
-    let Some(load) = at.load.checked_add(plan.need) else {
-        return Err(Halt::NoMemory);
-    };
-    reach(live, load);
+    let load = reach(live, at.load, plan.need)?;
     match block_end(at.top, plan.bytes) {
         Some(top) => {
             let inner = At {

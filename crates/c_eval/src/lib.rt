@@ -5,6 +5,5 @@ mod boundary;
 mod calls;
 mod exprs;
 mod stmts;
-mod trace;
 
-pub use trace::trace;
+pub use boundary::{chain, phase};

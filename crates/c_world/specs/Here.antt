@@ -13,7 +13,7 @@ use Rattle.c_world.specs.Plans.{finished}
 use Rattle.c_world.specs.Setups.{Setup, enters}
 
 -- what a call does, where at most so many functions may be active from it on
-abbrev pub call_at : Setup → ℕ → Caller
+unfoldable pub call_at : Setup → ℕ → Caller
 call_at s deep = calls.call s.program (enters s) s.turns deep
 
 -- an entry that Non-secure code calls from here on

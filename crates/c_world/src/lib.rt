@@ -20,5 +20,5 @@ pub use places::{
 };
 pub use plan::{At, Gives, Plan, converted};
 pub use range::checked_range;
-pub use setup::Setup;
+pub use setup::{Door, Setup};
 pub use spot::Spot;

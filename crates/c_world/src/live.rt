@@ -78,12 +78,19 @@ pub fn emit_called(live: &mut Live, target: u32, args: List<u32>) -> Result<(), 
     emit(live, CEvent::Called { target, args }, target, [0; 8])
 }
 
-/// So much stack is needed at this moment.
+/// The need of the active functions with one more that needs so many bytes, which is reached at this moment.
 #[tactic(auto, unfolding(crate::specs::Seen::seen))]
-pub fn reach(live: &mut Live, load: u64)
-    ensures { (script : List turns.Turn) → spec.seen script live.new ≡ crun.reach load (spec.seen script live.old) }
+pub fn reach(live: &mut Live, load: u64, need: u64) -> Result<u64, Halt>
+    ensures load { spec.IfGiven result (load + need) }
+    ensures peak { (script : List turns.Turn) → spec.Becomes result (spec.seen script live.new) (crun.reach (load + need) (spec.seen script live.old)) }
 {
-    live.peak = live.peak.max(load);
+    match load.checked_add(need) {
+        Some(all) => {
+            live.peak = live.peak.max(all);
+            Ok(all)
+        }
+        None => Err(Halt::NoMemory),
+    }
 }
 
 /// Takes the next turn of the script: it sets the stack pointers, and its items act.

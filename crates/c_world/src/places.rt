@@ -23,9 +23,8 @@ use crate::plan::{At, Plan, converted, finished};
 use c_const::{is_signed, operate};
 use crate::spot::Spot;
 use c_mean::Flow;
-use c_homes::bytes_of;
 use c_tree::{BinOp, TFunction, TLocal};
-use c_types::{CType, arith_size, is_unsigned, promoted};
+use c_types::{CType, arith_size, is_unsigned, promoted, type_size};
 use cm_base::{List, NoMemory};
 use ns_types::CEvent;
 use std::alloc::Global;
@@ -148,10 +147,7 @@ fn counted(place: &CType, y: u32) -> Result<u32, Halt>
             if !to.fits() {
                 return Err(Halt::NoMemory);
             }
-            match u32::try_from(bytes_of(to)) {
-                Ok(size) => Ok(y.wrapping_mul(size)),
-                Err(_) => Err(Halt::NoMemory),
-            }
+            Ok(y.wrapping_mul(type_size(to).unwrap_or(0)))
         }
         None => Ok(y),
     }
@@ -306,6 +302,7 @@ fn parameter(entry: bool, x: &TLocal, args: &[u32], n: usize) -> u32
 }
 
 /// Adds the first values of parameters.
+#[tactic(auto, using(crate::proofs::PlaceLaws::parameter_step))]
 fn add_parameters(list: &mut List<u32>, entry: bool, params: &[TLocal], args: &[u32]) -> Result<(), NoMemory>
     ensures { changes.Adds result list.old list.new (calls.parameters entry params.now args.now) }
 {

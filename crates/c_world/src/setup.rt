@@ -1,12 +1,8 @@
 //! What stays as it is through a run.
 
-ghost use Rattle.std.specs.Prelude.{◌≡◌, ◌≤◌, ◌∷◌, [], ℕ, List, Some, All, IfOk, IsTrue, drop, length, map, option_copied, option_map, option_and_then, slice_get, slice_index};
+ghost use Rattle.std.specs.Prelude.{◌≡◌, option_copied, option_map, slice_get, slice_index};
 ghost use Rattle.ns_types.specs.Boundary.{goes_of, goes_outside};
-ghost use Rattle.ns_types.specs.Veneers.{enters_of, place_of};
 ghost use Rattle.c_mean.specs.Calls.{entry_functions};
-ghost use Rattle.c_mean.specs.Homes as homes;
-ghost use Rattle.c_tree.specs.Conditions as conditions;
-ghost use Rattle.c_tree.specs.Nodes.{function_nodes};
 ghost use Rattle.c_world.specs.Here as around;
 ghost use Rattle.c_world.specs.Plans.{plan_of};
 ghost use Rattle.c_world.specs.Setups as spec;
@@ -14,13 +10,10 @@ ghost use Rattle.c_world.specs.declared.plan.At.{At};
 ghost use Rattle.c_world.specs.declared.plan.Plan.{Plan};
 
 use crate::plan::{At, Plan};
-use c_homes::homes;
 use c_memory::{align, is_nonsecure, is_secure};
-use c_names::Ident;
 use c_tree::{Program, TFunction};
-use cm_base::{List, NoMemory};
-use ns_types::{Goes, Turn, Veneer, Veneers};
-use std::alloc::Global;
+use cm_base::List;
+use ns_types::{Goes, Turn, Veneers};
 use std::marker::Model;
 
 /// A veneer's address, and the entry that it enters by its place among the program's entries.
@@ -45,7 +38,7 @@ pub struct Setup<'a> {
     doors: List<Door>,
 }
 
-impl Model for Setup<'_> {
+impl<'a> Model for Setup<'a> {
     ghost use Rattle.c_world.specs.Setups as spec;
 
     ghost Value = { spec.Setup };
@@ -53,65 +46,6 @@ impl Model for Setup<'_> {
     ghost view = { λ s. record { program = s.program.now; veneers = s.veneers.now.list; script = s.script.now; turns = s.turns } };
 
     ghost invariant = { λ s. spec.AreReady s.program.now s.veneers.now.list s.plans s.entries s.homes s.doors };
-}
-
-/// The place of a name among names, the first one where it stands more than once.
-fn place_of(names: &[Ident], name: &[u8]) -> Option<u32>
-    requires { length names.now ≤ 512 }
-    ensures { result ≡ place_of names.now name.now }
-{
-    let mut n: u32 = 0;
-    for other in names {
-        if other.as_slice() == name {
-            return Some(n);
-        }
-        n += 1;
-    }
-    None
-}
-
-/// The doors of veneers.
-fn doors_of(alloc: Global, entries: &[Ident], veneers: &[Veneer]) -> Result<List<Door>, NoMemory>
-    requires { length entries.now ≤ 512 }
-    ensures { IfOk result (λ doors. doors ≡ map (spec.door_of entries.now) veneers.now) }
-{
-    let mut doors = List::new(alloc);
-    for v in veneers {
-        let entry = place_of(entries, v.name.as_slice());
-        doors.push(Door {
-            address: v.address,
-            entry,
-        })?;
-    }
-    Ok(doors)
-}
-
-/// The plans of functions.
-fn plans_of(alloc: Global, functions: &[TFunction]) -> Result<List<Plan>, NoMemory>
-    requires { All (λ f. function_nodes f ≤ 2000) functions.now }
-    ensures { IfOk result (λ plans. plans ≡ map plan_of functions.now) }
-{
-    let mut plans = List::new(alloc);
-    for f in functions {
-        plans.push(Plan::new(alloc, f)?)?;
-    }
-    Ok(plans)
-}
-
-/// The numbers of the entry functions.
-fn entries_of(alloc: Global, functions: &[TFunction]) -> Result<List<u32>, NoMemory>
-    requires { length functions.now ≤ 16000 }
-    ensures { IfOk result (λ entries. entries ≡ spec.entry_numbers 0 functions.now) }
-{
-    let mut entries = List::new(alloc);
-    let mut n: u32 = 0;
-    for f in functions {
-        if f.entry {
-            entries.push(n)?;
-        }
-        n += 1;
-    }
-    Ok(entries)
 }
 
 /// The entry that stands at an address.
@@ -142,24 +76,21 @@ fn goes_outside(a: u32) -> Goes
 }
 
 impl<'a> Setup<'a> {
-    /// Works out what a run needs to know.
+    /// A run of a program, from what was worked out of it.
     pub fn new(
-        alloc: Global,
         program: &'a Program,
         veneers: &'a Veneers,
         script: &'a [Turn],
         turns: u32,
-    ) -> Result<Setup<'a>, NoMemory>
-        ensures { IfOk result
-            (λ s. s ≡ record { program = program.now; veneers = veneers.now.list; script = script.now; turns = turns }) }
+        plans: List<Plan>,
+        entries: List<u32>,
+        homes: List<u32>,
+        doors: List<Door>,
+    ) -> Setup<'a>
+        requires { spec.AreReady program.now veneers.now.list plans entries homes doors }
+        ensures { result ≡ record { program = program.now; veneers = veneers.now.list; script = script.now; turns = turns } }
     {
-        program.within();
-        let functions = program.functions.as_slice();
-        let plans = plans_of(alloc, functions)?;
-        let entries = entries_of(alloc, functions)?;
-        let homes = homes(alloc, program.globals.as_slice())?;
-        let doors = doors_of(alloc, program.entries.as_slice(), veneers.list.as_slice())?;
-        Ok(Setup {
+        Setup {
             program,
             veneers,
             script,
@@ -168,7 +99,7 @@ impl<'a> Setup<'a> {
             entries,
             homes,
             doors,
-        })
+        }
     }
 
     /// The function with this number.
@@ -182,6 +113,7 @@ impl<'a> Setup<'a> {
     }
 
     /// The plan of a function, by its number.
+    #[tactic(auto, using(crate::proofs::SetupLaws::plan_at))]
     pub fn plan(&self, n: Option<u32>) -> Option<&Plan>
         ensures { option_copied result ≡ option_map plan_of (spec.function_at self.now n) }
     {
@@ -192,6 +124,7 @@ impl<'a> Setup<'a> {
     }
 
     /// The number of the function of an entry.
+    #[tactic(auto, using(crate::proofs::SetupLaws::entries_are))]
     pub fn entry(&self, e: u32) -> Option<u32>
         ensures { spec.function_at self.now result ≡ slice_get (entry_functions self.now.program) e }
     {
@@ -213,7 +146,7 @@ impl<'a> Setup<'a> {
     }
 
     /// Where a branch goes; bit 0 of the target is ignored.
-    #[tactic(auto, unfolding(ns_types::specs::Boundary::goes_of))]
+    #[tactic(auto, using(crate::proofs::SetupLaws::doors_are), unfolding(ns_types::specs::Boundary::goes_of))]
     pub fn goes(&self, target: u32) -> Goes
         ensures { result ≡ goes_of (spec.enters self.now) target }
     {

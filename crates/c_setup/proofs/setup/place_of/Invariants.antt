@@ -1,6 +1,6 @@
 use Rattle.std.proofs.Common.{◌≡◌, ◌+◌, drop, option_map}
 use Rattle.ns_types.specs.Veneers.{place_of}
-use Rattle.c_world.proofs.setup.place_of.Given as goal
+use Rattle.c_setup.proofs.setup.place_of.Given as goal
 
 abbrev pub invariant-loop-other : goal.invariant-loop-other
 invariant-loop-other l = record {

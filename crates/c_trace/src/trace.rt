@@ -8,15 +8,16 @@ ghost use Rattle.ns_types.specs.Memory.{IsStart, ns_rom_size, word_at};
 ghost use Rattle.ns_types.specs.State.{Memory};
 ghost use Rattle.ns_types.specs.Turns as turns;
 ghost use Rattle.c_eval.specs.Steps as steps;
-ghost use Rattle.c_eval.specs.Trace as spec;
+ghost use Rattle.c_trace.specs.Trace as spec;
 ghost use Rattle.c_mean.specs.Homes as homes;
 ghost use Rattle.c_mean.specs.Run.{first_memory};
 ghost use Rattle.c_world.specs.Seen as world;
 
-use crate::boundary::{chain, phase};
+use c_eval::{chain, phase};
 use c_homes::{contents, data_stack};
 use c_memory::{Flat, align, word_at};
 use c_tree::Program;
+use c_setup::prepare;
 use c_world::{At, Halt, Live, Setup, stop};
 use cm_base::{List, NoMemory, Stop};
 use ns_types::{Bound, CEvent, CEvents, Mark, Marked, Start, Turn, Veneers};
@@ -125,7 +126,7 @@ pub fn trace(
     requires { IsStart start.now }
     ensures { IfOk result (λ events. events ≡ spec.trace_of program.now veneers.now.list start.now turns.now bound) }
 {
-    let setup = Setup::new(alloc, program, veneers, turns, bound.turns)?;
+    let setup = prepare(alloc, program, veneers, turns, bound.turns)?;
     let memory = first_memory(alloc, program, start)?;
     let mark = start_mark(start);
     let mut live = first_world(alloc, mark, memory)?;

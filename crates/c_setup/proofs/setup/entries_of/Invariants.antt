@@ -1,6 +1,6 @@
 use Rattle.std.proofs.Common.{◌≡◌, ◌++◌, drop}
 use Rattle.c_world.specs.Setups.{entry_numbers}
-use Rattle.c_world.proofs.setup.entries_of.Given as goal
+use Rattle.c_setup.proofs.setup.entries_of.Given as goal
 
 abbrev pub invariant-loop-f : goal.invariant-loop-f
 invariant-loop-f l = record {
