@@ -17,7 +17,7 @@ use Rattle.c_tree.specs.declared.stmt.Stmt.{Stmt}
 use Rattle.c_tree.specs.declared.stmt.Part.{Part as SwitchPart}
 use Rattle.c_tree.specs.declared.stmt.Part.TheOpen.{Stmt-F}
 use Rattle.c_mean.specs.declared.flow.Flow.{Flow}
-use Rattle.c_mean.specs.Parts.{Part, in_order, closing, called}
+use Rattle.c_mean.specs.Parts.{Part, in_order, loop, closing, called}
 use Rattle.c_mean.specs.Values.{Spot}
 use Rattle.c_mean.specs.Exprs as mean
 use Rattle.c_mean.specs.Exprs.{Meant, Sense, sense, kind_step, values_from}
@@ -81,6 +81,10 @@ do_turn s plan at body test = body_then (does body) (while_so (mean.value test) 
 
 abbrev pub for_turn : Setup → Plan → Place → Option Expr → Option Expr → Stmt → Part Flow
 for_turn s plan at test next body = while_so (test_or test) (body_then (does body) (done_or next)) (here s plan at)
+
+-- as many of them as the bound allows
+abbrev pub for_turns_at : Setup → Plan → Place → Option Expr → Option Expr → Stmt → Part Flow
+for_turns_at s plan at test next body = loop (for_turn s plan at test next body) (here s plan at).turns
 
 -- ---- calls
 

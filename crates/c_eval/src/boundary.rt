@@ -102,7 +102,8 @@ pub fn phase(
         let Some(turn) = next_turn(setup, live) else {
             return Err(Halt::Over(End::Waiting));
         };
-        if let Some(x) = cross(alloc, setup, at, left, live, turn, n)? {
+        let crossed = cross(alloc, setup, at, left, live, turn, n)?;
+        if let Some(x) = crossed {
             return Ok(x);
         }
     }

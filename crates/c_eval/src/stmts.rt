@@ -2,7 +2,6 @@
 
 ghost use Rattle.std.specs.Prelude.{◌≡◌, map, option_map};
 ghost use Rattle.c_eval.specs.Steps as spec;
-ghost use Rattle.c_mean.specs.Parts.{loop};
 ghost use Rattle.c_mean.specs.Stmts.{does, arm};
 ghost use Rattle.c_tree.specs.declared.stmt.Part.TheOpen as s;
 ghost use Rattle.c_world.specs.Here.{here};
@@ -353,7 +352,7 @@ fn for_turns(
     body: &Stmt,
 ) -> Result<Flow, Halt>
     ensures { world.Leaves result locals.new (world.seen setup.now.script live.new)
-        (loop (spec.for_turn setup.now plan.now at.now test.now next.now body.now) (here setup.now plan.now at.now).turns locals.old (world.seen setup.now.script live.old)) }
+        (spec.for_turns_at setup.now plan.now at.now test.now next.now body.now locals.old (world.seen setup.now.script live.old)) }
 {
     let mut n = setup.turns();
     while n > 0 {

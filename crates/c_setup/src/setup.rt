@@ -74,6 +74,7 @@ fn entries_of(alloc: Global, functions: &[TFunction]) -> Result<List<u32>, NoMem
 }
 
 /// Works out what a run of a program needs to know, where its entries are called at these veneers.
+#[tactic(auto, using(crate::proofs::ReadyLaws::few_nodes, crate::proofs::ReadyLaws::few_globals))]
 pub fn prepare<'a>(
     alloc: Global,
     program: &'a Program,

@@ -41,7 +41,7 @@ entry_at (d ∷ ds) a = cond (eqb a d.address) d.entry (entry_at ds a)
 -- What is worked out once: the plans of functions, the numbers of entry functions, the homes of globals, and the entries
 -- of veneers.
 pub record AreReady (p : Program) (veneers : List Veneer) (plans : List Plan) (entries : List ℕ) (placed : List ℕ) (doors : List Door) : Type 0 where
-  pub plans : plans ≡ map plan_of p.functions
-  pub entries : entries ≡ entry_numbers 0 p.functions
-  pub homes : placed ≡ homes.homes p.globals
-  pub doors : doors ≡ map (door_of p.entries) veneers
+  pub plans_are : plans ≡ map plan_of p.functions
+  pub entries_are : entries ≡ entry_numbers 0 p.functions
+  pub homes_are : placed ≡ homes.homes p.globals
+  pub doors_are : doors ≡ map (door_of p.entries) veneers

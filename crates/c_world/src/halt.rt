@@ -7,7 +7,7 @@ use cm_base::NoMemory;
 use ns_types::End;
 
 /// Why a run doesn't go on.
-#[derive(Clone, Copy, Debug, PartialEq, Eq)]
+#[derive(Clone, Copy)]
 pub enum Halt {
     /// The run is over.
     Over(End),

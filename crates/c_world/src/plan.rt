@@ -9,7 +9,7 @@ use c_types::{Arith, CType, Shape, arith_size};
 use cm_base::List;
 
 /// What a function makes of the value that it gives.
-#[derive(Clone, Copy, Debug, PartialEq, Eq)]
+#[derive(Clone, Copy)]
 pub enum Gives {
     /// The value as it is.
     Same,
@@ -33,7 +33,7 @@ pub struct Plan {
 
 /// An activation, or the place that calls from Non-secure code come from: how many more functions may be active, the need of
 /// those that are, the block of this one, and the first byte behind it.
-#[derive(Clone, Copy, Debug, PartialEq, Eq)]
+#[derive(Clone, Copy)]
 pub struct At {
     pub deep: u32,
     pub load: u64,

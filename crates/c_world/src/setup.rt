@@ -17,7 +17,7 @@ use ns_types::{Goes, Turn, Veneers};
 use std::marker::Model;
 
 /// A veneer's address, and the entry that it enters by its place among the program's entries.
-#[derive(Clone, Copy, Debug, PartialEq, Eq)]
+#[derive(Clone, Copy)]
 pub struct Door {
     pub address: u32,
     pub entry: Option<u32>,
@@ -41,7 +41,13 @@ pub struct Setup<'a> {
 impl<'a> Model for Setup<'a> {
     ghost use Rattle.c_world.specs.Setups as spec;
 
+    ghost use Rattle.std.specs.Coded.{codes};
+    ghost use Rattle.c_tree.specs.contracts.program.TFunction as f;
+    ghost use Rattle.c_tree.specs.contracts.program.TGlobal as g;
+
     ghost Value = { spec.Setup };
+
+    ghost coded = { Prim.hlevel (codes, f.the_row.coded, g.the_row.coded) };
 
     ghost view = { λ s. record { program = s.program.now; veneers = s.veneers.now.list; script = s.script.now; turns = s.turns } };
 
@@ -107,7 +113,10 @@ impl<'a> Setup<'a> {
         ensures { option_copied result ≡ spec.function_at self.now n }
     {
         match n {
-            Some(n) => self.program.functions.get(n as usize),
+            Some(n) => {
+                let program = self.program;
+                program.functions.get(n as usize)
+            }
             None => None,
         }
     }
