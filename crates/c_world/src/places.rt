@@ -1,6 +1,6 @@
 //! Reads and writes of places, and the first values of parameters and locals.
 
-ghost use Rattle.std.specs.Prelude.{◌≡◌, ℕ, ◌++◌, ◌∷◌, [], List, IsTrue, IfOk, cond, slice_index, slice_set, slice_get};
+ghost use Rattle.std.specs.Prelude.{◌≡◌, ℕ, ◌++◌, ◌∷◌, [], List, IsTrue, IfOk, cond, slice_index, slice_set, slice_get, replicate};
 ghost use Rattle.ns_types.specs.Access.{write_access};
 ghost use Rattle.ns_types.specs.Operators as ops;
 ghost use Rattle.ns_types.specs.Turns as turns;
@@ -302,7 +302,6 @@ fn parameter(entry: bool, x: &TLocal, args: &[u32], n: usize) -> u32
 }
 
 /// Adds the first values of parameters.
-#[tactic(auto, using(crate::proofs::PlaceLaws::parameter_step))]
 fn add_parameters(list: &mut List<u32>, entry: bool, params: &[TLocal], args: &[u32]) -> Result<(), NoMemory>
     ensures { changes.Adds result list.old list.new (calls.parameters entry params.now args.now) }
 {
@@ -314,22 +313,23 @@ fn add_parameters(list: &mut List<u32>, entry: bool, params: &[TLocal], args: &[
     Ok(())
 }
 
-/// Adds a 0 for each local.
-fn add_zeros(list: &mut List<u32>, locals: &[TLocal]) -> Result<(), NoMemory>
-    ensures { changes.Adds result list.old list.new (changes.zeros locals.now) }
+/// Adds n zeros.
+fn add_zeros(list: &mut List<u32>, n: usize) -> Result<(), NoMemory>
+    ensures { changes.Adds result list.old list.new (replicate n 0) }
 {
-    for _x in locals {
+    for _done in 0..n {
         list.push(0)?;
     }
     Ok(())
 }
 
 /// The first values of parameters and locals.
+#[tactic(auto, using(crate::proofs::PlaceLaws::zeros_are))]
 pub fn first_values(alloc: Global, f: &TFunction, args: &[u32]) -> Result<List<u32>, NoMemory>
     ensures { IfOk result (λ l. l ≡ calls.first_values f.now args.now) }
 {
     let mut list = List::from_vec(Vec::with_capacity(alloc, f.params.len().saturating_add(f.locals.len()))?);
     add_parameters(&mut list, f.entry, f.params.as_slice(), args)?;
-    add_zeros(&mut list, f.locals.as_slice())?;
+    add_zeros(&mut list, f.locals.len())?;
     Ok(list)
 }
