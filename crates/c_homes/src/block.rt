@@ -32,7 +32,8 @@ fn is_placed(x: &TLocal, n: usize, marks: &Marks) -> bool
 /// memory for it.
 fn add_local(block: &mut Block, x: &TLocal, marks: &Marks) -> Result<(), NoMemory>
     requires { length block.old.offsets < 2048 }
-    ensures { OnOk result
+    ensures many { OnOk result (length block.new.offsets ≡ length block.old.offsets + 1) }
+    ensures placed { OnOk result
         ((taken : List ℕ) → AreMarks marks.now.set taken → spec.seen block.new ≡ with_local taken (spec.seen block.old) x.now) }
 {
     if !is_placed(x, block.offsets.len(), marks) {
@@ -72,6 +73,7 @@ fn add_locals(block: &mut Block, xs: &[TLocal], marks: &Marks) -> Result<(), NoM
 
 /// The block of a function: its placed parameters and locals in order of declaration, each aligned, and the whole rounded up
 /// to a multiple of 8.
+#[tactic(auto, using(crate::proofs::BlockLaws::block_is))]
 pub fn block_of(alloc: Global, f: &TFunction) -> Result<Block, NoMemory>
     requires { function_nodes f.now ≤ 2000 }
     ensures { IfOk result (λ b. b ≡ record { offsets = (block_of f.now).offsets; bytes = block_bytes f.now }) }
