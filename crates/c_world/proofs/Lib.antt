@@ -1,0 +1,4 @@
+pub mod RangeLaws
+pub mod ClearLaws
+pub mod SetupLaws
+pub mod PlaceLaws

@@ -1,0 +1,5 @@
+pub mod Plans
+pub mod Seen
+pub mod Setups
+pub mod Here
+pub mod Changes
