@@ -8,7 +8,6 @@ use Rattle.c_mean.specs.Homes.{block_of, with_local}
 use Rattle.c_homes.specs.Blocks.{seen, with_locals}
 use Rattle.c_homes.specs.declared.block.Block.{Block}
 
-
 pub block_is : (f : TFunction) (a b c : Block) → seen a ≡ record { offsets = []; bytes = 0 } → seen b ≡ with_locals (stmt_taken f.body) (seen a) f.params → seen c ≡ with_locals (stmt_taken f.body) (seen b) f.locals → seen c ≡ block_of f
 block_is f a b c first params locals =
     locals

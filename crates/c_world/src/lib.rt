@@ -16,7 +16,8 @@ pub use live::{
 };
 pub use operate::{difference, operated, pointer_sum, skipped, tested, truth};
 pub use places::{
-    address, caller, change, first_values, home_params, local_spot, moved, read, returned, step, write,
+    address, caller, change, first_values, home_params, local_spot, moved, read, returned, step,
+    write,
 };
 pub use plan::{At, Gives, Plan, converted};
 pub use range::checked_range;

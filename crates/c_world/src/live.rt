@@ -63,7 +63,13 @@ pub fn stop(live: &mut Live, why: Stop) -> Halt
 }
 
 /// An entry gave its result, which goes to a place.
-pub fn emit_result(live: &mut Live, entry: u32, r0: u32, exit: u32, kept: [u32; 8]) -> Result<(), Halt>
+pub fn emit_result(
+    live: &mut Live,
+    entry: u32,
+    r0: u32,
+    exit: u32,
+    kept: [u32; 8],
+) -> Result<(), Halt>
     ensures { (script : List turns.Turn) → spec.Becomes result (spec.seen script live.new)
         (crun.emit (c.Result entry r0) (crun.mark_at exit kept (spec.seen script live.old)) (spec.seen script live.old)) }
 {

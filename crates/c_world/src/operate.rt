@@ -109,5 +109,9 @@ pub fn skipped(x: u32, parts: &[Part]) -> usize
     ensures { result ≡ stmts.skipped x (map stmts.arm parts.now) }
 {
     let k = case_at(x, parts);
-    if k < parts.len() { k } else { default_at(parts) }
+    if k < parts.len() {
+        k
+    } else {
+        default_at(parts)
+    }
 }

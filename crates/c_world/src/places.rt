@@ -20,8 +20,8 @@ use crate::halt::Halt;
 use crate::live::{Live, emit_plain, stop};
 use crate::operate::truth;
 use crate::plan::{At, Plan, converted, finished};
-use c_const::{is_signed, operate};
 use crate::spot::Spot;
+use c_const::{is_signed, operate};
 use c_mean::Flow;
 use c_tree::{BinOp, TFunction, TLocal};
 use c_types::{CType, arith_size, is_unsigned, promoted, type_size};
@@ -111,7 +111,13 @@ fn set_local(locals: &mut List<u32>, n: u32, x: u32)
 }
 
 /// Writes a value of a type at a place.
-pub fn write(live: &mut Live, locals: &mut List<u32>, t: &CType, spot: Spot, x: u32) -> Result<u32, Halt>
+pub fn write(
+    live: &mut Live,
+    locals: &mut List<u32>,
+    t: &CType,
+    spot: Spot,
+    x: u32,
+) -> Result<u32, Halt>
     ensures { (script : List turns.Turn)
         → spec.Leaves result locals.new (spec.seen script live.new) (values.write_spot t.now (spec.spot_of spot) x locals.old (spec.seen script live.old)) }
 {
@@ -154,7 +160,14 @@ fn counted(place: &CType, y: u32) -> Result<u32, Halt>
 }
 
 /// The new value of a place whose old value is x (C11 6.5.16.2).
-fn changed(live: &mut Live, op: BinOp, t: &CType, right: &CType, x: u32, y: u32) -> Result<u32, Halt>
+fn changed(
+    live: &mut Live,
+    op: BinOp,
+    t: &CType,
+    right: &CType,
+    x: u32,
+    y: u32,
+) -> Result<u32, Halt>
     ensures { (script : List turns.Turn) (l : List ℕ)
         → spec.Leaves result l (spec.seen script live.new) (or_halt (exprs.changed op t.now right.now x y) l (spec.seen script live.old)) }
 {
@@ -290,19 +303,18 @@ fn parameter(entry: bool, x: &TLocal, args: &[u32], n: usize) -> u32
     ensures { result ≡ changes.parameter entry x.now (slice_get args.now n) }
 {
     match args.get(n) {
-        Some(a) => {
-            if entry {
-                converted(&x.ctype, *a)
-            } else {
-                *a
-            }
-        }
+        Some(a) => { if entry { converted(&x.ctype, *a) } else { *a } }
         None => 0,
     }
 }
 
 /// Adds the first values of parameters.
-fn add_parameters(list: &mut List<u32>, entry: bool, params: &[TLocal], args: &[u32]) -> Result<(), NoMemory>
+fn add_parameters(
+    list: &mut List<u32>,
+    entry: bool,
+    params: &[TLocal],
+    args: &[u32],
+) -> Result<(), NoMemory>
     ensures { changes.Adds result list.old list.new (calls.parameters entry params.now args.now) }
 {
     let mut n: usize = 0;
@@ -328,7 +340,10 @@ fn add_zeros(list: &mut List<u32>, n: usize) -> Result<(), NoMemory>
 pub fn first_values(alloc: Global, f: &TFunction, args: &[u32]) -> Result<List<u32>, NoMemory>
     ensures { IfOk result (λ l. l ≡ calls.first_values f.now args.now) }
 {
-    let mut list = List::from_vec(Vec::with_capacity(alloc, f.params.len().saturating_add(f.locals.len()))?);
+    let mut list = List::from_vec(Vec::with_capacity(
+        alloc,
+        f.params.len().saturating_add(f.locals.len()),
+    )?);
     add_parameters(&mut list, f.entry, f.params.as_slice(), args)?;
     add_zeros(&mut list, f.locals.len())?;
     Ok(list)

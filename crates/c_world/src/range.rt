@@ -68,13 +68,7 @@ pub fn checked_range(p: u32, n: u32, flags: u32) -> u32
         return 0;
     }
     match row_of_all(p, n) {
-        Some(k) => {
-            if has_asked(flags, k) {
-                p
-            } else {
-                0
-            }
-        }
+        Some(k) => { if has_asked(flags, k) { p } else { 0 } }
         None => 0,
     }
 }

@@ -40,7 +40,6 @@ pub struct Setup<'a> {
 
 impl<'a> Model for Setup<'a> {
     ghost use Rattle.c_world.specs.Setups as spec;
-
     ghost use Rattle.std.specs.Coded.{codes};
     ghost use Rattle.c_tree.specs.contracts.program.TFunction as f;
     ghost use Rattle.c_tree.specs.contracts.program.TGlobal as g;

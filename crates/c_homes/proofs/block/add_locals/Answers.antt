@@ -14,7 +14,7 @@ loop-x-preserved c =
     record {
       many = omega (arith, c.in_ok-add_local.ensures.many);
       placed = λ taken marks.
-        ap (λ (b : homes.Block). with_locals taken b (drop (l.x-index + 1) xs)) (c.in_ok-add_local.ensures.placed taken marks)
-        ∙ ap (λ (ys : List TLocal). with_locals taken (seen l.block) ys) (sym next)
-        ∙ l.invariant.placed taken marks;
+          ap (λ (b : homes.Block). with_locals taken b (drop (l.x-index + 1) xs)) (c.in_ok-add_local.ensures.placed taken marks)
+          ∙ ap (λ (ys : List TLocal). with_locals taken (seen l.block) ys) (sym next)
+          ∙ l.invariant.placed taken marks;
     }
