@@ -100,18 +100,18 @@ lone_tag (x ∷ []) = struct_named (out-Spec x)
 lone_tag (x ∷ y ∷ more) = None
 
 -- an attribute that stands on nothing
-abbrev pub unless_at : {A : Type 0} → Option Place → ℕ → Checked A → Checked A
-unless_at (Some at) code rest = fault code at
-unless_at None code rest = rest
+abbrev pub unless_at : {A : Type 0} → ℕ → Option Place → Checked A → Checked A
+unless_at code (Some at) rest = fault code at
+unless_at code None rest = rest
 
 -- without declarators a struct or an enum is declared, and nothing else can be: no function and nothing that takes an attribute
 abbrev pub declares : Specified → Checked (Unit {0})
 declares it =
     refuse (not it.tagged) 27 (start_of it) (
-    unless_at it.words.inline 27 (
-    unless_at it.attributes.entry 40 (
-    unless_at it.attributes.call 40 (
-    unless_at it.attributes.noinit 40 (Ok tt)))))
+    unless_at 27 it.words.inline (
+    unless_at 40 it.attributes.entry (
+    unless_at 40 it.attributes.call (
+    unless_at 40 it.attributes.noinit (Ok tt)))))
 
 abbrev pub bare_as : Bool → Around → List Spec → Option Name → Step (Unit {0})
 bare_as stored around specs (Some name) s = declare_struct around.scope name s >>> (λ ty u. Ok (tt, u))

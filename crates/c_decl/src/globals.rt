@@ -206,8 +206,23 @@ fn file_init(
 ) -> Result<List<TGlobal>, TypeFault>
     ensures { Leaves result tables.new (spec.file_init head.now x.now made tables.old) }
 {
-    let d = declared_by(alloc, &x.declarator, x.attrs.as_slice(), tables, at_file(), head)?;
-    file_declared(alloc, value_of(x), tables, head, &x.declarator.name, d, made)
+    let d = declared_by(
+        alloc,
+        &x.declarator,
+        x.attrs.as_slice(),
+        tables,
+        at_file(),
+        head,
+    )?;
+    file_declared(
+        alloc,
+        value_of(x),
+        tables,
+        head,
+        &x.declarator.name,
+        d,
+        made,
+    )
 }
 
 fn file_inits(

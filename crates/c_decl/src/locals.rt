@@ -89,7 +89,14 @@ fn local_init(
 ) -> Result<Shared<Stmt>, TypeFault>
     ensures { Leaves result tables.new (spec.local_init head.now x.now around tables.old) }
 {
-    let d = declared_by(alloc, &x.declarator, x.attrs.as_slice(), tables, around, head)?;
+    let d = declared_by(
+        alloc,
+        &x.declarator,
+        x.attrs.as_slice(),
+        tables,
+        around,
+        head,
+    )?;
     local_declared(alloc, value_of(x), tables, around, &x.declarator.name, d)
 }
 

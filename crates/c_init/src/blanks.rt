@@ -49,7 +49,17 @@ fn blank(
         return Ok(items);
     }
     match parts_of(alloc, t, structs)? {
-        Some(parts) => blank_from(alloc, deep - 1, structs, place, &parts, at, 0, parts.count(), items),
+        Some(parts) => blank_from(
+            alloc,
+            deep - 1,
+            structs,
+            place,
+            &parts,
+            at,
+            0,
+            parts.count(),
+            items,
+        ),
         None => with_zero(alloc, t, place, at, items),
     }
 }

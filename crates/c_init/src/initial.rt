@@ -186,7 +186,16 @@ fn set(
     match x {
         Initial::Assign(e) => set_expression(alloc, e, tables, around, t, from, items),
         Initial::Braces(place, list) => {
-            set_braces(alloc, list.as_slice(), tables, around, *place, t, from, items)
+            set_braces(
+                alloc,
+                list.as_slice(),
+                tables,
+                around,
+                *place,
+                t,
+                from,
+                items,
+            )
         }
     }
 }
@@ -233,7 +242,15 @@ fn set_parts(
         done = set_part(alloc, x, tables, around, part, from, done)?;
         i = i.wrapping_add(1);
     }
-    Ok(rest_blank(alloc, tables.structs.as_slice(), parts, place, from, i, done)?)
+    Ok(rest_blank(
+        alloc,
+        tables.structs.as_slice(),
+        parts,
+        place,
+        from,
+        i,
+        done,
+    )?)
 }
 
 #[cycle(initials)]

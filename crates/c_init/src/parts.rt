@@ -38,11 +38,7 @@ pub fn bytes_of(t: &CType) -> u32
 }
 
 /// The parts of an array or a struct, each type as it stands now; None for a scalar.
-pub fn parts_of(
-    alloc: Global,
-    t: &CType,
-    structs: &[StructInfo],
-) -> Result<Option<Parts>, NoMemory>
+pub fn parts_of(alloc: Global, t: &CType, structs: &[StructInfo]) -> Result<Option<Parts>, NoMemory>
     ensures { IfOk result (λ r. r ≡ spec.parts_of structs.now t.now) }
 {
     match &t.shape {
@@ -60,11 +56,7 @@ pub fn parts_of(
 }
 
 /// The members of the struct of this number.
-fn slots_in(
-    alloc: Global,
-    number: u32,
-    structs: &[StructInfo],
-) -> Result<List<Slot>, NoMemory>
+fn slots_in(alloc: Global, number: u32, structs: &[StructInfo]) -> Result<List<Slot>, NoMemory>
     ensures { IfOk result (λ r. r ≡ spec.slots_in structs.now (slice_get structs.now number)) }
 {
     match structs.get(number as usize) {
@@ -73,11 +65,7 @@ fn slots_in(
     }
 }
 
-fn slots(
-    alloc: Global,
-    members: &[Member],
-    structs: &[StructInfo],
-) -> Result<List<Slot>, NoMemory>
+fn slots(alloc: Global, members: &[Member], structs: &[StructInfo]) -> Result<List<Slot>, NoMemory>
     ensures { IfOk result (λ r. r ≡ map (spec.slot structs.now) members.now) }
 {
     let mut done = List::new(alloc);

@@ -30,13 +30,7 @@ pub fn char_kind(t: &CType) -> Option<Arith>
     ensures { result ≡ spec.char_kind t.now }
 {
     match t.arithmetic() {
-        Some(a) => {
-            if arith_size(a) == 1 {
-                Some(a)
-            } else {
-                None
-            }
-        }
+        Some(a) => { if arith_size(a) == 1 { Some(a) } else { None } }
         None => None,
     }
 }
