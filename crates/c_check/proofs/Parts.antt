@@ -19,6 +19,7 @@ use Rattle.c_scope.specs.declared.tables.Tables.{Tables}
 use Rattle.c_scope.specs.Steps.{◌>>>◌, keeping}
 use Rattle.c_scope.specs.FileScope.{declare_constant}
 use Rattle.c_check.specs.declared.around.Around.{Around}
+use Rattle.c_check.specs.declared.formed.Formed.{Formed}
 use Rattle.c_check.specs.declared.specified.Head.{Head}
 use Rattle.c_check.specs.Operands.{joined, followed}
 use Rattle.c_check.specs.Specified.{head_of}
@@ -54,6 +55,13 @@ declaring_is d = search (rules, the_lemmas)
 pub declarators_cons : (around : Around) (h : Head) (l : Layout) (d : Declarator) (ds : List Declarator) (s : Tables)
     → declarators around h l (d ∷ ds) s ≡ (forming d.form h.attributes around s >>> (λ f u. with_member h.base d.name f l >>= (λ more. declarators around h more ds u)))
 declarators_cons around h l d ds s = ap (λ (x : Declaring). declarators_from around h l (x ∷ map declaring ds) s) (declaring_is d)
+
+pub declarators_next : (around : Around) (h : Head) (l more : Layout) (d : Declarator) (ds : List Declarator) (f : Formed) (s u : Tables)
+    → forming d.form h.attributes around s ≡ Ok (f, u) → with_member h.base d.name f l ≡ Ok more → declarators around h l (d ∷ ds) s ≡ declarators around h more ds u
+declarators_next around h l more d ds f s u p q =
+    declarators_cons around h l d ds s
+    ∙ (ap (λ r. r >>> (λ f u. with_member h.base d.name f l >>= (λ more. declarators around h more ds u))) p
+    ∙ ap (λ r. r >>= (λ more. declarators around h more ds u)) q)
 
 abbrev plain_enumerator : Enumerator → Counting
 plain_enumerator e = record { name = e.name; value = option_map typed e.value }

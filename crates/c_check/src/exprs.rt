@@ -16,7 +16,7 @@ use c_ast::{Access, Expr as Tree, Link, Next};
 use c_rows::{Arg, TypeFault, at};
 use c_scope::Tables;
 use c_tree::Expr;
-use cm_base::{List, Place, Shared};
+use cm_base::{List, Shared};
 use std::alloc::Global;
 
 /// What an expression is: its typed tree, or the name of a call of arm_cmse.h.
@@ -67,7 +67,7 @@ pub fn expr(
             let o = expr(alloc, first.get(), tables, around)?;
             let first = o.first;
             let left = o.value(alloc)?;
-            links(alloc, more.as_slice(), tables, around, first, left)
+            links(alloc, more.as_slice(), tables, around, Arg { value: left, first })
         }
         Tree::Choice(place, c, a, b) => {
             let c = expr(alloc, c.get(), tables, around)?;
@@ -88,7 +88,7 @@ pub fn expr(
             let o = expr(alloc, first.get(), tables, around)?;
             let first = o.first;
             let left = o.value(alloc)?;
-            commas(alloc, more.as_slice(), tables, around, first, left)
+            commas(alloc, more.as_slice(), tables, around, Arg { value: left, first })
         }
     }
 }
@@ -105,7 +105,7 @@ pub fn value(
     expr(alloc, e, tables, around)?.value(alloc)
 }
 
-/// Operands joined from left to right, behind the value of the first, whose text begins at `first`.
+/// Operands joined from left to right, behind the value of the first.
 #[cycle(syntax)]
 #[tactic(auto, using(crate::proofs::Parts::links_cons))]
 fn links(
@@ -113,11 +113,11 @@ fn links(
     more: &[Link],
     tables: &mut Tables,
     around: Around,
-    first: Place,
-    value: Shared<Expr>,
+    start: Arg,
 ) -> Result<Operand, TypeFault>
-    ensures { Leaves result tables.new (spec.links around first value more.now tables.old) }
+    ensures { Leaves result tables.new (spec.links around start.first start.value more.now tables.old) }
 {
+    let Arg { value, first } = start;
     let mut left = value;
     for link in more {
         let right = expr(alloc, &link.operand, tables, around)?;
@@ -126,7 +126,7 @@ fn links(
     Ok(Operand::new(first, left))
 }
 
-/// What stands behind commas, after the value of the first expression, whose text begins at `first`.
+/// What stands behind commas, after the value of the first expression.
 #[cycle(syntax)]
 #[tactic(auto, using(crate::proofs::Parts::commas_cons))]
 fn commas(
@@ -134,11 +134,11 @@ fn commas(
     more: &[Next],
     tables: &mut Tables,
     around: Around,
-    first: Place,
-    value: Shared<Expr>,
+    start: Arg,
 ) -> Result<Operand, TypeFault>
-    ensures { Leaves result tables.new (spec.commas around first value more.now tables.old) }
+    ensures { Leaves result tables.new (spec.commas around start.first start.value more.now tables.old) }
 {
+    let Arg { value, first } = start;
     let mut left = value;
     for next in more {
         let right = expr(alloc, &next.value, tables, around)?;
