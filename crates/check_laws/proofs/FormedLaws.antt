@@ -30,8 +30,8 @@ use Rattle.c_check.specs.declared.specified.Specified.{Specified}
 use Rattle.c_check.specs.Formed.{attributed, declared, formed, inner_type, nonsecure_if, parameter, place_or, type_of_name, with_member, without_pointer}
 use Rattle.c_check.specs.Specified.{base_of, head_of, named_type, start_of, tagged_type, with_attr, with_attributes, with_name, worded}
 use Rattle.range_laws.specs.Few.{IsFit, derivations_few, few, members_few, words_few}
-use Rattle.range_laws.specs.Steps.{Answers, Goes}
-use Rattle.range_laws.proofs.DeriveLaws.{IsFew, derivations_law, derived_law, nonsecure_declared_law, parts_few, specified_law, with_type_law, with_word_law}
+use Rattle.range_laws.specs.Steps.{Answers, Goes, IsFew}
+use Rattle.range_laws.proofs.DeriveLaws.{derivations_law, derived_law, nonsecure_declared_law, parts_few, specified_law, with_type_law, with_word_law}
 use Rattle.range_laws.proofs.FewLaws.{few_decayed}
 use Rattle.range_laws.proofs.LookupLaws.{type_named_law}
 use Rattle.range_laws.proofs.Moves.{answers_then, answers_unless, goes_then, silent, stays, then_goes, told}

@@ -34,7 +34,7 @@ use Rattle.c_check.specs.declared.operands.What.{What}
 use Rattle.c_check.specs.declared.operands.What.TheVariants as what
 use Rattle.c_check.specs.Operands.{argument, arrow_operand, arrow_row, assign_as, assign_tree, assigned_operand, binary_row, called_operand, called_what, cast_operand, changes, chosen_operand, element_operand, followed, has_members, is_up, joined, member_operand, member_row, named_as, named_operand, operand, sized_operand, sized_type, stepped_operand, tree_in, tree_of, unary_operand, unary_row, value_of, whole}
 use Rattle.range_laws.specs.Few.{IsFit, few}
-use Rattle.range_laws.specs.Fits.{AreArgs, IsArg, IsTree, IsValue}
+use Rattle.range_laws.specs.Fits.{AreArgs, IsArg, IsMade, IsTree, IsValue}
 use Rattle.range_laws.specs.Ranges.{IsWithin, range}
 use Rattle.range_laws.specs.Steps.{Answers}
 use Rattle.range_laws.proofs.CallLaws.{called_law, intrinsic_law}
@@ -42,7 +42,7 @@ use Rattle.range_laws.proofs.LookupLaws.{has_member, member_of_law, named_law}
 use Rattle.range_laws.proofs.Moves.{answers_cond, answers_on, answers_then, silent, told}
 use Rattle.range_laws.proofs.RowLaws as rows
 use Rattle.range_laws.proofs.TreeLaws as trees
-use Rattle.range_laws.proofs.TreeLaws.{IsMade, tree_wider, valued_made}
+use Rattle.range_laws.proofs.TreeLaws.{tree_wider, valued_made}
 use Rattle.check_laws.specs.Operands.{IsOperand, what_fits}
 
 pub what_wider : (a b : Range) → IsWithin a b → (w : What) → what_fits a w → what_fits b w

@@ -39,7 +39,7 @@ use Rattle.c_check.specs.declared.operands.Operand.{Operand}
 use Rattle.c_check.specs.Operands.{operand, tree_of, value_of, named_operand, from, joined, followed, unary_operand, stepped_operand, sized_operand, sized_type, cast_operand, chosen_operand, assigned_operand, element_operand, called_operand, argument, member_operand, arrow_operand, length_operand, constant_operand}
 use Rattle.c_check.specs.Specified.{none_yet, tagged_type, with_attr, with_name, worded, head_of}
 use Rattle.c_check.specs.Formed.{formed, inside, parameter, star_attributes, type_of_name, with_member}
-use Rattle.c_check.specs.Typed.{Typing, Reach, Naming, Forming, Declaring, Specifying, Tagged, Adding, Counting, Linked, Following, Passing, Listing, Deriving, abstract_step, access_step, accesses_from, arguments_from, commas_from, declarator_step, declarators_from, enum_body, enum_step, enumerator_step, enumerators_from, expr_step, head, if_file, in_list, length_step, link_step, links_from, member_step, members_from, next_step, no_members, param_step, params_from, params_step, spec_step, specifiers_from, struct_body, struct_step, suffix_step, suffixes_from, type_step, value_or}
+use Rattle.c_check.specs.Typed.{Typing, Reach, Naming, Forming, Declaring, Specifying, Tagged, Adding, Counting, Linked, Following, Passing, Listing, Deriving, abstract_step, access_step, accesses_from, arguments_from, commas_from, declarator_step, declarators_from, enum_body, enum_step, enumerator_step, enumerators_from, expr_step, head, if_file, in_list, length_step, link_step, links_from, member_step, members_from, next_step, no_members, param_step, params_from, params_step, spec_step, specifiers, specifiers_from, value, struct_body, struct_step, suffix_step, suffixes_from, type_step, value_or}
 use Rattle.c_scope.specs.declared.tables.Layout.{Layout}
 use Rattle.c_scope.specs.declared.tables.Scope.{Scope}
 use Rattle.c_scope.specs.declared.tables.Tables.{Tables}
@@ -48,14 +48,14 @@ use Rattle.c_scope.specs.Tags.{begin_enum, begin_struct, end_struct, enum_use, s
 use Rattle.c_scope.specs.Blocks.{close_parameters, open_parameters}
 use Rattle.c_scope.specs.FileScope.{declare_constant}
 use Rattle.range_laws.specs.Few.{IsFit, derivation_few, derivations_few, few, members_few, params_few, words_few}
-use Rattle.range_laws.specs.Fits.{AreArgs}
+use Rattle.range_laws.specs.Fits.{AreArgs, IsMade}
 use Rattle.range_laws.specs.Ranges.{Grows, range}
-use Rattle.range_laws.specs.Steps.{Answers, Came, Goes}
+use Rattle.range_laws.specs.Steps.{Answers, Anything, Came, Goes}
 use Rattle.range_laws.proofs.Both.{all_push}
 use Rattle.range_laws.proofs.FewLaws.{few_arith}
 use Rattle.range_laws.proofs.Moves.{answers_then, behind, comes, goes_cond, goes_then, grows_trans, keeps, stays, stops, then_goes, told, within}
-use Rattle.range_laws.proofs.TableLaws.{Anything, Leads, begin_enum_law, begin_struct_law, close_parameters_law, constant_law, end_struct_law, struct_use_law}
-use Rattle.range_laws.proofs.TreeLaws.{IsMade, const_made, few_int, made_wider, tree_wider}
+use Rattle.range_laws.proofs.TableLaws.{begin_enum_law, begin_struct_law, close_parameters_law, constant_law, end_struct_law, struct_use_law}
+use Rattle.range_laws.proofs.TreeLaws.{const_made, few_int, made_wider, tree_wider}
 use Rattle.check_laws.specs.Operands.{IsOperand}
 use Rattle.check_laws.specs.Keeps.{AddingKeeps, CountingKeeps, DeclaringKeeps, DerivationAt, DerivationsAt, DerivingKeeps, FollowingKeeps, FormedAt, FormingKeeps, HeadAt, LayoutAt, LinkedKeeps, ListingKeeps, NamingKeeps, OperandAt, ParamAt, ParamsAt, PassingKeeps, ReachKeeps, SpecifiedAt, SpecifyingKeeps, TaggedKeeps, TypeAt, TypingKeeps, option_keeps}
 use Rattle.check_laws.proofs.FormedLaws.{formed_few, head_of_law, parameter_keeps, tagged_type_law, type_of_name_law, with_attr_law, with_member_law, with_name_law, worded_law}

@@ -12,7 +12,7 @@ use Rattle.c_tree.specs.declared.stmt.Stmt.{Stmt, roll-Stmt}
 use Rattle.c_tree.specs.declared.stmt.Part.{Part, roll-Part}
 use Rattle.c_tree.specs.declared.stmt.Part.TheOpen as s
 use Rattle.c_tree.specs.declared.stmt.Part.TheOpen.{Stmt-F, Part-F}
-use Rattle.c_tree.specs.declared.stmt.Part.TheFolds.{map-Stmt, map-Part, fold-Part, fold-roll-Stmt, fold-roll-Part, ind-Stmt}
+use Rattle.c_tree.specs.declared.stmt.Part.TheFolds.{map-Stmt, map-Part, fold-Part, fold-roll-Stmt, fold-roll-Part, ind-Part, ind-Stmt}
 use Rattle.c_tree.specs.Numbers.{Names, all_true, expr_in_range, expr_step, function_in_range, in_range_or, items_in_range, kind_step, or_true, part_step, stmt_in_range, stmt_step}
 use Rattle.c_tree.specs.Numbers.{Around as Ranged}
 use Rattle.range_laws.specs.Ranges.{IsWithin, NamesWithin}
@@ -191,6 +191,11 @@ module _ (a b : Ranged) (w : IsWithin a b) where
 
   pub stmt_wider : (x : Stmt) → stmt_in_range a x ≡ true → stmt_in_range b x ≡ true
   stmt_wider = ind-Stmt PartHolds StmtHolds
+      (λ x y is. subst (λ z. PartHolds (roll-Part z)) is (part_law y))
+      (λ x y is. subst (λ z. StmtHolds (roll-Stmt z)) is (stmt_law y))
+
+  pub part_wider : (x : Part) → low_part x ≡ true → high_part x ≡ true
+  part_wider = ind-Part PartHolds StmtHolds
       (λ x y is. subst (λ z. PartHolds (roll-Part z)) is (part_law y))
       (λ x y is. subst (λ z. StmtHolds (roll-Stmt z)) is (stmt_law y))
 

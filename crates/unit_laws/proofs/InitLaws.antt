@@ -12,7 +12,8 @@ use Rattle.c_types.specs.declared.arith.Arith.{Arith}
 use Rattle.c_types.specs.declared.ctype.CType.{CType}
 use Rattle.c_types.specs.declared.ctype.Shape.TheOpen as shape
 use Rattle.c_types.specs.Derived.{unqualified}
-use Rattle.c_types.specs.Kind.{Look, look}
+use Rattle.c_types.specs.declared.ctype.Shape.TheVariants.{rolls-Array}
+use Rattle.c_types.specs.Kind.{Look, is_function, look, looks_function}
 use Rattle.c_const.specs.Constant.{constant}
 use Rattle.c_const.specs.Operate.{narrowed}
 use Rattle.c_tree.specs.declared.expr.Expr.{Expr}
@@ -40,10 +41,9 @@ use Rattle.c_init.specs.Initials.{Setting, completed, if_constant, initial_step,
 use Rattle.range_laws.specs.Few.{IsFit, few}
 use Rattle.range_laws.specs.Fits.{IsValue}
 use Rattle.range_laws.specs.Ranges.{Grows, range}
-use Rattle.range_laws.specs.Steps.{Answers, Came, Goes}
+use Rattle.range_laws.specs.Steps.{Answers, Came, Goes, IsFew}
 use Rattle.range_laws.proofs.Both.{all_push}
-use Rattle.range_laws.proofs.DeriveLaws.{IsFew}
-use Rattle.range_laws.proofs.FewLaws.{few_array, few_at, look_few}
+use Rattle.range_laws.proofs.FewLaws.{few_array, few_at, look_few, shape_out_is}
 use Rattle.range_laws.proofs.Moves.{answers_cond, answers_then, answers_unless, goes_then, goes_unless, keeps, silent, stays, stops, then_goes, told, within}
 use Rattle.range_laws.proofs.TreeLaws.{const_in, fitted_numbers}
 use Rattle.range_laws.proofs.Wider.{items_wider}
@@ -178,3 +178,18 @@ pub initialise_keeps : (t : CType) (x : Initial) (name : Place) (around : Around
 initialise_keeps t x name around s fit h =
     then_goes s (completed t x name) _ (completed_few t x name h) (λ u k.
     goes_then s (sets x around u 0 [] s) _ ((setting_keeps x).goes around u 0 [] s fit refl) (λ items v c. stays v _ c.fit (record { typed = k; items = c.holds })))
+
+-- an object's type stays that of an object
+length_object : (t : CType) (x : Initial) (l : Look) → is_function t ≡ false → is_function (with_length t x l) ≡ false
+length_object t x (shape.Array of None) h = ap looks_function (shape_out_is (shape.Array of _) _ (rolls-Array of _))
+length_object t x (shape.Array of (Some n)) h = h
+length_object t x shape.Void h = h
+length_object t x (shape.Arith a) h = h
+length_object t x (shape.Pointer to) h = h
+length_object t x (shape.Struct m name size align) h = h
+length_object t x (shape.Function g p n) h = h
+
+pub initialised_object : (t : CType) (x : Initial) (name : Place) (around : Around) (s : Tables) → IsFit s → few t ≡ true → is_function t ≡ false → Goes (λ it u. IsInitialised around.in_entry it u × (is_function it.ctype ≡ false)) s (initialise t x name around s)
+initialised_object t x name around s fit h k =
+    then_goes s (completed t x name) _ (answers_cond {Q = λ u. (few u ≡ true) × (is_function u ≡ false)} _ _ _ (λ c. told _ (length_few t x (look t) h (few_at t h), length_object t x (look t) k)) (λ c. silent)) (λ u c.
+    goes_then s (sets x around u 0 [] s) _ ((setting_keeps x).goes around u 0 [] s fit refl) (λ items v d. stays v _ d.fit (record { typed = c.0; items = d.holds }, c.1)))

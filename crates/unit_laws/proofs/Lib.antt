@@ -1,0 +1,3 @@
+pub mod InitLaws
+pub mod DeclLaws
+pub mod BodyLaws
