@@ -62,12 +62,12 @@ clashes_at s t how None = false
 abbrev pub clashes : Tables → Name → CType → Linkage → Bool
 clashes s name t how = clashes_at s t how (place_of s.names name.text)
 
--- what one declaration says alone, and what it adds to what those before it say
+-- what one declaration says alone, and what it adds to what those before it say; a function that was defined keeps its linkage
 abbrev pub alone : Linkage → State
 alone how = record { is_static = how.is_static; is_plain = not how.is_extern; is_entry = how.is_entry; has_body = false }
 
 abbrev pub together : State → Linkage → State
-together st how = record { is_static = st.is_static || how.is_static; is_plain = st.is_plain || not how.is_extern; is_entry = st.is_entry || how.is_entry; has_body = st.has_body }
+together st how = record { is_static = st.is_static || (how.is_static && not st.has_body); is_plain = st.is_plain || not how.is_extern; is_entry = st.is_entry || how.is_entry; has_body = st.has_body }
 
 abbrev pub first_known : Name → CType → Linkage → Known
 first_known name t how = record { name = name.text; ctype = t; place = name.place; state = alone how }
@@ -140,10 +140,16 @@ define_function n s = defined_as n s (slice_get s.externs n)
 abbrev pub completed : CType → Known → Known
 completed t k = record { name = k.name; ctype = t; place = k.place; state = k.state }
 
+-- an array without a length
+abbrev pub is_unsized : Look → Bool
+is_unsized (shape.Array of None) = true
+is_unsized (shape.Array of (Some len)) = false
+is_unsized _ = false
+
 abbrev pub completed_as : ℕ → CType → Tables → Option Known → Tables
-completed_as n t s (Some k) = record s { externs = slice_set s.externs n (completed t k) }
+completed_as n t s (Some k) = cond (is_unsized (look k.ctype)) (record s { externs = slice_set s.externs n (completed t k) }) s
 completed_as n t s None = s
 
--- the type of a global whose initialiser gave its length
+-- the type of a global whose initialiser gave its length; a length that is known stays
 abbrev pub complete_object : ℕ → CType → Tables → Tables
 complete_object n t s = completed_as n t s (slice_get s.externs n)

@@ -10,7 +10,7 @@ use crate::tables::{Known, Linkage, Meaning, State, Tables};
 use c_ast::Name;
 use c_rows::{TypeFault, at};
 use c_types::{CType, Shape, same_type};
-use cm_base::{List, NoMemory};
+use cm_base::NoMemory;
 use cmse_rules::{has_secure_pointer, is_reserved};
 use std::alloc::Global;
 
@@ -124,12 +124,12 @@ fn alone(how: Linkage) -> State
     }
 }
 
-/// What a declaration says together with those before it.
+/// What a declaration says together with those before it. A function that was defined keeps its linkage.
 fn together(before: State, how: Linkage) -> State
     ensures { result ≡ spec.together before how }
 {
     State {
-        is_static: before.is_static || how.is_static,
+        is_static: before.is_static || how.is_static && !before.has_body,
         is_plain: before.is_plain || !how.is_extern,
         is_entry: before.is_entry || how.is_entry,
         has_body: before.has_body,
@@ -140,7 +140,7 @@ fn with_state(alloc: Global, known: &Known, state: State) -> Result<Known, NoMem
     ensures { IfOk result (λ k. k ≡ spec.with_state state known.now) }
 {
     Ok(Known {
-        name: known.name.try_clone(alloc)?,
+        name: known.name.copy(alloc)?,
         ctype: known.ctype.share(alloc)?,
         place: known.place,
         state,
@@ -160,7 +160,7 @@ fn declared_first(
     match u32::try_from(tables.externs.len()) {
         Ok(n) => {
             add_meaning(alloc, tables, name.text.as_slice(), Meaning::Extern(n))?;
-            let text = List::from_slice(alloc, name.text.as_slice())?;
+            let text = name.text.copy(alloc)?;
             tables.externs.push(Known {
                 name: text,
                 ctype,
@@ -321,7 +321,20 @@ pub fn define_function(alloc: Global, tables: &mut Tables, n: u32) -> Result<(),
     }
 }
 
-/// Gives a global the type whose length its initialiser told.
+/// Whether it is an array without a length.
+fn is_unsized(t: &CType) -> bool
+    ensures { result ≡ spec.is_unsized (look t.now) }
+{
+    match &t.shape {
+        Shape::Array { len, .. } => match len {
+            None => true,
+            Some(_) => false,
+        },
+        _ => false,
+    }
+}
+
+/// Gives a global the type whose length its initialiser told. A length that is known stays.
 pub fn complete_object(
     alloc: Global,
     tables: &mut Tables,
@@ -332,8 +345,11 @@ pub fn complete_object(
 {
     match tables.externs.get(n as usize) {
         Some(known) => {
+            if !is_unsized(&known.ctype) {
+                return Ok(());
+            }
             let known = Known {
-                name: known.name.try_clone(alloc)?,
+                name: known.name.copy(alloc)?,
                 ctype,
                 place: known.place,
                 state: known.state,

@@ -4,6 +4,7 @@ ghost use Rattle.std.specs.Prelude.{◌≡◌, true, []};
 ghost use Rattle.c_scope.specs.Lookup as spec;
 
 use crate::index::Index;
+use c_names::Ident;
 use c_rows::Intrinsic;
 use c_tree::TLocal;
 use c_types::CType;
@@ -89,7 +90,7 @@ pub struct State {
 /// A function or a global that the unit declares, with its first declaration's type and place.
 #[derive(Drop)]
 pub struct Known {
-    pub name: Text,
+    pub name: Ident,
     pub ctype: CType,
     pub place: Place,
     pub state: State,
