@@ -1,5 +1,5 @@
 -- Types that are one are both types of functions, or neither is.
-use Rattle.std.proofs.Common.{◌≡◌, ℕ, ◌&&◌, Bool, true, false, List, ap, sym, ◌∙◌, subst, refl, rules}
+use Rattle.std.proofs.Common.{◌≡◌, ℕ, ◌&&◌, Bool, true, false, List, map, ap, sym, ◌∙◌, subst, refl, rules}
 use Rattle.c_types.specs.declared.ctype.CType.{CType}
 use Rattle.c_types.specs.declared.ctype.Shape.{Shape, out-Shape}
 use Rattle.c_types.specs.declared.ctype.Shape.TheOpen as shape
@@ -24,11 +24,11 @@ same_shapes a b h =
 
 by : (x y : Look) (t : Shape) → out-Shape t ≡ y → shape_step One (tests x) t ≡ true → looks_function x ≡ looks_function y
 by (shape.Function g p n) (shape.Function g' p' n') t is h = refl
-by (shape.Function g p n) shape.Void t is h = no (subst (λ z. same_function (same One g) _ n z ≡ true) is h)
-by (shape.Function g p n) (shape.Arith a) t is h = no (subst (λ z. same_function (same One g) _ n z ≡ true) is h)
-by (shape.Function g p n) (shape.Pointer a) t is h = no (subst (λ z. same_function (same One g) _ n z ≡ true) is h)
-by (shape.Function g p n) (shape.Array a l) t is h = no (subst (λ z. same_function (same One g) _ n z ≡ true) is h)
-by (shape.Function g p n) (shape.Struct k m s l) t is h = no (subst (λ z. same_function (same One g) _ n z ≡ true) is h)
+by (shape.Function g p n) shape.Void t is h = no (subst (λ z. same_function (same One g) (map (same One) p) n z ≡ true) is h)
+by (shape.Function g p n) (shape.Arith a) t is h = no (subst (λ z. same_function (same One g) (map (same One) p) n z ≡ true) is h)
+by (shape.Function g p n) (shape.Pointer a) t is h = no (subst (λ z. same_function (same One g) (map (same One) p) n z ≡ true) is h)
+by (shape.Function g p n) (shape.Array a l) t is h = no (subst (λ z. same_function (same One g) (map (same One) p) n z ≡ true) is h)
+by (shape.Function g p n) (shape.Struct k m s l) t is h = no (subst (λ z. same_function (same One g) (map (same One) p) n z ≡ true) is h)
 by shape.Void (shape.Function g p n) t is h = no (subst (λ z. same_void z ≡ true) is h)
 by (shape.Arith a) (shape.Function g p n) t is h = no (subst (λ z. same_arithmetic a z ≡ true) is h)
 by (shape.Pointer a) (shape.Function g p n) t is h = no (subst (λ z. same_pointer (same One a) z ≡ true) is h)

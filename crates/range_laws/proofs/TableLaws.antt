@@ -385,12 +385,16 @@ defined_by n s None fit is = record { grows = grows_same s; fit = fit }
 pub define_function_law : (n : ℕ) (s : Tables) → IsFit s → Leads s (define_function n s)
 define_function_law n s fit = defined_by n s (slice_get s.externs n) fit refl
 
+object_leads : (b : Bool) (n : ℕ) (t : CType) (s : Tables) (k : Known) → IsFit s → few t ≡ true → is_function t ≡ false → slice_get s.externs n ≡ Some k → is_function k.ctype ≡ false → Leads s (cond b (record s { externs = slice_set s.externs n (completed t k) }) s)
+object_leads true n t s k fit f g is h = known_leads n k (completed t k) s fit is (kept_object k (completed t k) h g) f
+object_leads false n t s k fit f g is h = record { grows = grows_same s; fit = fit }
+
+not_function : (b : Bool) → not b ≡ true → b ≡ false
+not_function true e = no e
+not_function false e = refl
+
 object_by : (n : ℕ) (t : CType) (s : Tables) (o : Option Known) → IsFit s → few t ≡ true → is_function t ≡ false → slice_get s.externs n ≡ o → is_object (option_map extern_of o) ≡ true → Leads s (completed_as n t s o)
-object_by n t s (Some k) fit f g is h = known_leads n k (completed t k) s fit is (kept_object k (completed t k) (not_function (is_function k.ctype) h) g) f
-  where
-    not_function : (b : Bool) → not b ≡ true → b ≡ false
-    not_function true e = no e
-    not_function false e = refl
+object_by n t s (Some k) fit f g is h = object_leads _ n t s k fit f g is (not_function (is_function k.ctype) h)
 object_by n t s None fit f g is h = record { grows = grows_same s; fit = fit }
 
 pub complete_object_law : (n : ℕ) (t : CType) (s : Tables) → IsFit s → few t ≡ true → is_function t ≡ false → IsObjectAt n s → Leads s (complete_object n t s)

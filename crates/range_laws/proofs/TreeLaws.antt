@@ -99,7 +99,7 @@ module _ (a : Ranged) where
   valued_by : (e : Expr) (first : Place) (o : Option CType) → element e.ctype ≡ o → IsTree a e → Answers (IsMade a) (valued_as e first o)
   valued_by e first (Some of) is h =
       let v = value_of e h (array_no_function (look e.ctype) of is) in
-      told (first_element e of) (made_of (Addr e) (kind.Addr e) (pointer_to of) e.place (rolls-Addr e) (λ x. refl) v.numbers (few_pointer of ∙ subst (λ o. few_or o ≡ true) is (few_element e.ctype h.typed))))
+      told (first_element e of) (made_of (Addr e) (kind.Addr e) (pointer_to of) e.place (rolls-Addr e) (λ x. refl) v.numbers (few_pointer of ∙ subst (λ o. few_or o ≡ true) is (few_element e.ctype h.typed)))
   valued_by e first None is h = answers_unless (is_function e.ctype || is_struct e.ctype) 29 first (Ok e) (λ k. told e (record { value = value_of e h (or_false_left (is_function e.ctype) (is_struct e.ctype) k); tree = h }))
 
   pub valued_made : (e : Expr) (first : Place) → IsTree a e → Answers (IsMade a) (valued e first)

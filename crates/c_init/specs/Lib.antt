@@ -1,0 +1,5 @@
+pub mod Parts
+pub mod Blanks
+pub mod Strings
+pub mod Initials
+pub mod Contents
