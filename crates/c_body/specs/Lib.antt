@@ -1,0 +1,4 @@
+pub mod Within
+pub mod Arms
+pub mod Simple
+pub mod Stmts
