@@ -20,7 +20,7 @@ use Rattle.c_rows.specs.Values.{fitted}
 use Rattle.c_scope.specs.Steps.{Step, ◌>>>◌, keeping, refuse}
 use Rattle.c_check.specs.declared.around.Around.{Around}
 use Rattle.c_check.specs.Typed.{value}
-use Rattle.c_decl.specs.Local.{local_declaration}
+use Rattle.c_decl.specs.Locals.{local_declaration}
 use Rattle.c_body.specs.declared.arms.Arms.{Arms}
 use Rattle.c_body.specs.declared.simple.Head.{Head}
 use Rattle.c_body.specs.declared.within.Within.{Within}

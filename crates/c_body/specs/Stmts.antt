@@ -15,7 +15,7 @@ use Rattle.c_tree.specs.declared.stmt.Stmt.TheVariants as stmt
 use Rattle.c_scope.specs.declared.tables.Tables.{Tables}
 use Rattle.c_scope.specs.Steps.{Step, ◌>>>◌, keeping}
 use Rattle.c_check.specs.declared.around.Around.{Around}
-use Rattle.c_decl.specs.Local.{local_declaration}
+use Rattle.c_decl.specs.Locals.{local_declaration}
 use Rattle.c_body.specs.declared.arms.Arms.{Arms}
 use Rattle.c_body.specs.declared.simple.Head.{Head}
 use Rattle.c_body.specs.declared.within.Within.{Within}

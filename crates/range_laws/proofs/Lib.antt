@@ -10,3 +10,4 @@ pub mod LookupLaws
 pub mod SameLaws
 pub mod TableLaws
 pub mod DeriveLaws
+pub mod HeaderLaws

@@ -43,9 +43,6 @@ not_true true h = no h
 not_true false h = refl
 
 module _ (a : Ranged) where
-  abbrev pub Makes : Type 0
-  Makes = Expr → Type 0
-
   -- ---- arithmetic
 
   pub joined_law : (op : BinOp) (place : Place) (x y : Expr) (k gives : Arith) → IsValue a x → IsValue a y → IsMade a (joined op place x y k gives)

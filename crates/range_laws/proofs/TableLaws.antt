@@ -93,7 +93,7 @@ kept_object : (k y : Known) → is_function k.ctype ≡ false → is_function y.
 kept_object k y f g = record { objects = λ h. ap not g; functions = λ many h. clash (is_function k.ctype) (no_object many (look k.ctype) h) f }
 
 -- tables with the same functions and globals, and the same locals
-grows_beside : (s t : Tables) → s.externs ≡ t.externs → s.locals ≡ t.locals → Grows s t
+pub grows_beside : (s t : Tables) → s.externs ≡ t.externs → s.locals ≡ t.locals → Grows s t
 grows_beside s t e l = record { externs = subst (λ xs. NamesWithin (names s) (names_of_unit (map extern_of xs))) e (names_same (names s)); locals = subst (λ xs. length s.locals ≤ length xs) l (le_refl (length s.locals)) }
 
 -- ---- blocks and parameter lists
@@ -262,7 +262,7 @@ added_law name t l f h =
 
 -- ---- file scope
 
-meaning_leads : (text : List ℕ) (m : Meaning) (s : Tables) → IsFit s → meaning_few m ≡ true → Leads s (with_meaning text m s)
+pub meaning_leads : (text : List ℕ) (m : Meaning) (s : Tables) → IsFit s → meaning_few m ≡ true → Leads s (with_meaning text m s)
 meaning_leads text m s fit f = record {
     grows = grows_beside s (with_meaning text m s) refl refl;
     fit = record { meanings = all_push meaning_few s.meanings m fit.meanings f; locals = fit.locals; structs = fit.structs; externs = fit.externs };

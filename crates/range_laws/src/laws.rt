@@ -3,6 +3,7 @@
 ghost use Rattle.std.specs.Prelude.{◌≡◌, ℕ, Bool, true, false, List, Option};
 ghost use Rattle.cm_base.specs.declared.place.Place.{Place};
 ghost use Rattle.c_ast.specs.declared.expr.Name.{Name};
+ghost use Rattle.c_lex.specs.declared.token.Header.{Header};
 ghost use Rattle.c_types.specs.declared.ctype.CType.{CType};
 ghost use Rattle.c_types.specs.Kind.{is_function};
 ghost use Rattle.c_tree.specs.declared.expr.BinOp.{BinOp};
@@ -34,6 +35,7 @@ ghost use Rattle.c_scope.specs.declared.tables.Scope.{Scope};
 ghost use Rattle.c_scope.specs.declared.tables.Tables.{Tables};
 ghost use Rattle.c_scope.specs.Blocks as blocks;
 ghost use Rattle.c_scope.specs.FileScope as file_scope;
+ghost use Rattle.c_scope.specs.Headers.{include};
 ghost use Rattle.c_scope.specs.Layout as layout;
 ghost use Rattle.c_scope.specs.Lookup as lookup;
 ghost use Rattle.c_scope.specs.Tags as tags;
@@ -124,4 +126,10 @@ pub fn file_law()
     ensures functions { (name : Name) (t : CType) (how : Linkage) (s : Tables) → IsFit s → few t ≡ true → Goes Anything s (file_scope.declare_function name t how s) }
     ensures defined { (n : ℕ) (s : Tables) → IsFit s → Leads s (file_scope.define_function n s) }
     ensures completed { (n : ℕ) (t : CType) (s : Tables) → IsFit s → few t ≡ true → is_function t ≡ false → IsObjectAt n s → Leads s (file_scope.complete_object n t s) }
+{}
+
+/// A unit begins with fit tables, and headers only add names.
+pub fn header_law()
+    ensures start { IsFit lookup.nothing }
+    ensures headers { (h : Header) (place : Place) (s : Tables) → IsFit s → Goes Anything s (include h place s) }
 {}
