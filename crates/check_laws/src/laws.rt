@@ -1,10 +1,7 @@
 //! Laws of the walk over the syntax tree.
 
-ghost use Rattle.std.specs.Prelude.{◌≡◌, Ok};
 ghost use Rattle.c_ast.specs.declared.expr.Expr.{Expr as Tree};
 ghost use Rattle.c_ast.specs.declared.expr.TypeName.{TypeName};
-ghost use Rattle.c_tree.specs.declared.expr.Expr.{Expr};
-ghost use Rattle.c_types.specs.declared.ctype.CType.{CType};
 ghost use Rattle.c_scope.specs.declared.tables.Tables.{Tables};
 ghost use Rattle.c_check.specs.declared.around.Around.{Around};
 ghost use Rattle.c_check.specs.Typed.{typed, type_name, value};
