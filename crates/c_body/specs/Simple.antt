@@ -3,6 +3,7 @@ use Rattle.std.specs.Prelude.{ℕ, Bool, not, ◌||◌, cond, List, [], ◌∷�
 use Rattle.cm_base.specs.declared.place.Place.{Place}
 use Rattle.c_ast.specs.Places.{first_place}
 use Rattle.c_ast.specs.declared.expr.Expr.{Expr as Tree}
+use Rattle.c_ast.specs.declared.stmt.Decl.{Decl}
 use Rattle.c_ast.specs.declared.stmt.First.{First}
 use Rattle.c_ast.specs.declared.stmt.First.TheVariants as first
 use Rattle.c_ast.specs.declared.stmt.ForHead.{ForHead}
@@ -25,6 +26,10 @@ use Rattle.c_body.specs.declared.arms.Arms.{Arms}
 use Rattle.c_body.specs.declared.simple.Head.{Head}
 use Rattle.c_body.specs.declared.within.Within.{Within}
 use Rattle.c_body.specs.Arms.{cased, defaulted}
+
+-- a declaration in a block: a Declare for each local
+unfoldable pub declared : Decl → Around → Step (List Stmt)
+declared d around s = local_declaration d around s
 
 -- an expression for what it does
 unfoldable pub done : Tree → Around → Step Stmt
@@ -60,7 +65,7 @@ continued place w = jumped w.in_loop stmt.Continue place
 
 -- its first part: a declaration, an expression, or nothing
 abbrev pub begun : First → Around → Step (List Stmt)
-begun (first.Decl d) around s = local_declaration d around s
+begun (first.Decl d) around s = declared d around s
 begun (first.Expr None) around s = Ok ([], s)
 begun (first.Expr (Some e)) around s = done e around s >>> (λ x u. Ok (x ∷ [], u))
 

@@ -15,12 +15,11 @@ use Rattle.c_tree.specs.declared.stmt.Stmt.TheVariants as stmt
 use Rattle.c_scope.specs.declared.tables.Tables.{Tables}
 use Rattle.c_scope.specs.Steps.{Step, ◌>>>◌, keeping}
 use Rattle.c_check.specs.declared.around.Around.{Around}
-use Rattle.c_decl.specs.Locals.{local_declaration}
 use Rattle.c_body.specs.declared.arms.Arms.{Arms}
 use Rattle.c_body.specs.declared.simple.Head.{Head}
 use Rattle.c_body.specs.declared.within.Within.{Within}
 use Rattle.c_body.specs.Arms.{no_arms, with_stmt, with_stmts}
-use Rattle.c_body.specs.Simple.{done, tested, switched, returned, broken, continued, headed, labelled}
+use Rattle.c_body.specs.Simple.{declared, done, tested, switched, returned, broken, continued, headed, labelled}
 use Rattle.c_body.specs.Within.{outermost, looping, switching, opened, closed}
 
 -- ---- what each part does, in a function that gives this type
@@ -103,12 +102,12 @@ stmt_step (t.Switch place e parts) gives w s =
     parts_from no_arms parts gives (switching (opened w u)) u >>> (λ all v. Ok (switch_of c all, closed (opened w u) v)))
 
 abbrev pub item_step : ItemLayer → Adding
-item_step (t.Item::Decl d) gives w all s = local_declaration d w.around s >>> (λ more u. Ok (all ++ more, u))
+item_step (t.Item::Decl d) gives w all s = declared d w.around s >>> (λ more u. Ok (all ++ more, u))
 item_step (t.Item::Stmt x) gives w all s = x gives w s >>> (λ y u. Ok (all ++ y ∷ [], u))
 
 abbrev pub part_step : PartLayer → Choosing
 part_step (t.Label l) gives w all s = labelled l w.around all s
-part_step (t.Part::Decl d) gives w all s = local_declaration d w.around s >>> (λ more u. Ok (with_stmts more all, u))
+part_step (t.Part::Decl d) gives w all s = declared d w.around s >>> (λ more u. Ok (with_stmts more all, u))
 part_step (t.Part::Stmt x) gives w all s = x gives w s >>> (λ y u. Ok (with_stmt y all, u))
 
 abbrev pub block_step : BlockLayer → Listing

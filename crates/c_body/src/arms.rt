@@ -44,7 +44,7 @@ impl Cases {
     pub fn has(&self, n: u32) -> bool
         ensures { result ≡ spec.has self.now n }
     {
-        self.set.contains(n)
+        self.set.contains(&n)
     }
 
     /// Adds a value that isn't there.

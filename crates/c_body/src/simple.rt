@@ -8,7 +8,7 @@ ghost use Rattle.c_body.specs.Within.{Puts};
 
 use crate::arms::Arms;
 use crate::within::Within;
-use c_ast::{Expr as Tree, First, ForHead, Label, first_place};
+use c_ast::{Decl, Expr as Tree, First, ForHead, Label, first_place};
 use c_check::{Around, value};
 use c_decl::local_declaration;
 use c_rows::{TypeFault, at, fitted, integer_constant, switch_value, test};
@@ -24,6 +24,19 @@ pub fn node(alloc: Global, stmt: Stmt) -> Result<Shared<Stmt>, TypeFault>
     ensures { Gives result (Ok stmt) }
 {
     Ok(Shared::new(alloc, stmt)?)
+}
+
+/// A declaration in a block: a Declare for each local.
+#[tactic(auto, unfolding(crate::specs::Simple::declared))]
+pub fn declared(
+    alloc: Global,
+    d: &Decl,
+    tables: &mut Tables,
+    around: Around,
+) -> Result<List<Shared<Stmt>>, TypeFault>
+    ensures { Leaves result tables.new (spec.declared d.now around tables.old) }
+{
+    local_declaration(alloc, d, tables, around)
 }
 
 /// An expression for what it does.
@@ -145,7 +158,7 @@ fn begun(
     ensures { Leaves result tables.new (spec.begun first.now around tables.old) }
 {
     match first {
-        First::Decl(d) => local_declaration(alloc, d, tables, around),
+        First::Decl(d) => declared(alloc, d, tables, around),
         First::Expr(None) => Ok(List::new(alloc)),
         First::Expr(Some(e)) => {
             let x = done(alloc, e.get(), tables, around)?;

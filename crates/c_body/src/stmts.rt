@@ -8,12 +8,11 @@ ghost use Rattle.c_body.specs.Within.{Puts};
 
 use crate::arms::Arms;
 use crate::simple::{
-    Head, broken, continued, done, headed, labelled, node, returned, switched, tested,
+    Head, broken, continued, declared, done, headed, labelled, node, returned, switched, tested,
 };
 use crate::within::Within;
 use c_ast::{Block, Item, Part, Stmt as Tree};
 use c_check::Around;
-use c_decl::local_declaration;
 use c_rows::TypeFault;
 use c_scope::Tables;
 use c_tree::{Expr, Stmt};
@@ -168,7 +167,7 @@ fn item(
 {
     match one {
         Item::Decl(d) => {
-            let more = local_declaration(alloc, d, tables, w.around)?;
+            let more = declared(alloc, d, tables, w.around)?;
             all.append(more)?;
         }
         Item::Stmt(s) => {
@@ -211,7 +210,7 @@ fn part(
     match one {
         Part::Label(l) => labelled(alloc, l, tables, w.around, arms),
         Part::Decl(d) => {
-            let more = local_declaration(alloc, d, tables, w.around)?;
+            let more = declared(alloc, d, tables, w.around)?;
             arms.push_stmts(more.as_slice())?;
             Ok(())
         }

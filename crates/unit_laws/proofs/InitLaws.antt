@@ -56,9 +56,6 @@ module _ (a : Range) where
   abbrev In : List Item → Type 0
   In items = items_in_range a items ≡ true
 
-  item_in : Item → Bool
-  item_in i = expr_in_range a i.value
-
   push_in : (done : List Item) (i : Item) → In done → expr_in_range a i.value ≡ true → In (done ++ i ∷ [])
   push_in done i h k = all_push (λ (i : Item). expr_in_range a i.value) done i h k
 
@@ -115,7 +112,7 @@ later_items entry s t items g h = items_wider (range entry s) (range entry t) (w
 pub record SettingKeeps (x : Setting) : Type 0 where
   pub goes : (around : Around) (t : CType) (at : ℕ) (done : List Item) (s : Tables) → IsFit s → items_in_range (range around.in_entry s) done ≡ true → Goes (ItemsAt around.in_entry) s (x.sets around t at done s)
 
-AnInitial : Type 0
+abbrev AnInitial : Type 0
 AnInitial = (x : Initial) × SettingKeeps (setting x)
 
 scalar_keeps : (around : Around) (e : Tree) (t : CType) (at : ℕ) (done : List Item) (s : Tables) → IsFit s → items_in_range (range around.in_entry s) done ≡ true → Goes (ItemsAt around.in_entry) s (set_scalar around e t at done s)
