@@ -4,6 +4,7 @@ use Rattle.std.specs.List.{list_all}
 use Rattle.cm_base.specs.declared.place.Place.{Place}
 use Rattle.c_ast.specs.Places.{first_place}
 use Rattle.c_ast.specs.declared.expr.Expr.{Expr as Source}
+use Rattle.c_ast.specs.declared.stmt.Decl.{Decl}
 use Rattle.c_ast.specs.declared.stmt.First.{First}
 use Rattle.c_ast.specs.declared.stmt.First.TheVariants as first
 use Rattle.c_ast.specs.declared.stmt.ForHead.{ForHead}
@@ -44,7 +45,7 @@ use Rattle.c_body.specs.declared.arms.Arms.{Arms}
 use Rattle.c_body.specs.declared.simple.Head.{Head}
 use Rattle.c_body.specs.declared.within.Within.{Within}
 use Rattle.c_body.specs.Arms.{cased, defaulted, has, no_arms, with_case, with_default, with_stmt, with_stmts}
-use Rattle.c_body.specs.Simple.{begun, broken, continued, done, given, headed, jumped, labelled, returned, switched, tested, tested_or, valued_or}
+use Rattle.c_body.specs.Simple.{begun, broken, continued, declared, done, given, headed, jumped, labelled, returned, switched, tested, tested_or, valued_or}
 use Rattle.c_body.specs.Stmts.{Adding, Choosing, Listing, Typing, adding, block_step, body, choosing, else_typed, for_of, item_step, items_from, listed, part_step, parts_from, stmt_step, switch_of, typed}
 use Rattle.c_body.specs.Within.{closed, looping, opened, outermost, switching}
 use Rattle.range_laws.specs.Few.{IsFit}
@@ -138,8 +139,12 @@ jumped_law a false x place h = silent
 
 -- ---- `for`
 
+declared_keeps : (d : Decl) (around : Around) (s : Tables) → IsFit s → Goes (StmtsAt around.in_entry) s (declared d around s)
+    unfolding declared
+declared_keeps d around s fit = local_declaration_keeps d around s fit
+
 begun_keeps : (f : First) (around : Around) (s : Tables) → IsFit s → Goes (StmtsAt around.in_entry) s (begun f around s)
-begun_keeps (first.Decl d) around s fit = local_declaration_keeps d around s fit
+begun_keeps (first.Decl d) around s fit = declared_keeps d around s fit
 begun_keeps (first.Expr None) around s fit = stays s [] fit refl
 begun_keeps (first.Expr (Some e)) around s fit = goes_then s (done e around s) _ (done_keeps e around s fit) (λ x u c. stays u (x ∷ []) c.fit (both c.holds refl))
 
@@ -327,7 +332,7 @@ stmt_keeps (t.Switch place e ps) = record { goes = λ gives w s fit.
 
 item_keeps : (y : Item-F AnItem APart AStmt ABlock) → AddingKeeps (item_step (part_Item (tree_Item y)))
 item_keeps (t.Item::Decl d) = record { goes = λ gives w all s fit h.
-    goes_then s (local_declaration d w.around s) _ (local_declaration_keeps d w.around s fit) (λ more u c.
+    goes_then s (declared d w.around s) _ (declared_keeps d w.around s fit) (λ more u c.
     stays u (all ++ more) c.fit (all_append (stmt_in_range (range w.around.in_entry u)) all more (later_stmts w.around.in_entry s u all c.grows h) c.holds)) }
 item_keeps (t.Item::Stmt x) = record { goes = λ gives w all s fit h.
     goes_then s (typed x.0 gives w s) _ (x.1.goes gives w s fit) (λ y u c.
@@ -336,7 +341,7 @@ item_keeps (t.Item::Stmt x) = record { goes = λ gives w all s fit h.
 part_keeps : (y : Part-F AnItem APart AStmt ABlock) → ChoosingKeeps (part_step (part_Part (tree_Part y)))
 part_keeps (t.Label l) = record { goes = λ gives w all s fit h. labelled_keeps l w.around all s fit h }
 part_keeps (t.Part::Decl d) = record { goes = λ gives w all s fit h.
-    goes_then s (local_declaration d w.around s) _ (local_declaration_keeps d w.around s fit) (λ more u c.
+    goes_then s (declared d w.around s) _ (declared_keeps d w.around s fit) (λ more u c.
     stays u (with_stmts more all) c.fit (record { parts = all_append (part_in (range w.around.in_entry u)) all.parts (map part.Stmt more) (later_arms w.around.in_entry s u all c.grows h).parts (parts_of (range w.around.in_entry u) more c.holds) })) }
 part_keeps (t.Part::Stmt x) = record { goes = λ gives w all s fit h.
     goes_then s (typed x.0 gives w s) _ (x.1.goes gives w s fit) (λ y u c.
