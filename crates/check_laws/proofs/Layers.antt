@@ -268,16 +268,13 @@ abstract_keeps (t.Abstract::Group stars place inner suffixes) = record { goes = 
     goes_then s (forming inner.0 bs around s) _ (inner.1.goes bs around s fit) (λ f u c.
     goes_then u _ _ (suffixes_keep derives suffixes around [] u c.fit refl) (λ ds v d. stays v (formed stars ds f.derivations f.attributes) d.fit (formed_few stars ds f.derivations f.attributes d.holds c.holds)))) }
 
-length_by : (e : Option AnExpr) (around : Around) (s : Tables) → IsFit s → Goes DerivationAt s (length_step (option_map typed (option_map (λ x. x.0) e)) around s)
-length_by None around s fit = stays s (by.Array None) fit refl
-length_by (Some e) around s fit = goes_then s (typed e.0 around s) _ (e.1.goes around s fit) (λ o u c. number_then u (length_operand o) _ (λ n. stays u (by.Array (Some n)) c.fit refl))
-  where
-    number_then : (u : Tables) (r : Checked ℕ) (f : ℕ → Checked (Derivation × Tables)) → ((n : ℕ) → Goes DerivationAt u (f n)) → Goes DerivationAt u (r >>= f)
-    number_then u (Ok n) f h = h n
-    number_then u (Err e) f h = record { it = tt }
+number_then : (u : Tables) (r : Checked ℕ) (f : ℕ → Checked (Derivation × Tables)) → ((n : ℕ) → Goes DerivationAt u (f n)) → Goes DerivationAt u (r >>= f)
+number_then u (Ok n) f h = h n
+number_then u (Err e) f h = record { it = tt }
 
 suffix_keeps : (y : Suffix-F AnAbstract AnAccess AnEnumSpec AnExpr AMember AParam AParams ASpec AStructSpec ASuffix ADeclarator AnEnumerator ALink ANext ATypeName) → DerivingKeeps (suffix_step (part_Suffix (tree_Suffix y)))
-suffix_keeps (t.Array place e) = record { goes = λ around s fit. length_by e around s fit }
+suffix_keeps (t.Array place None) = record { goes = λ around s fit. stays s (by.Array None) fit refl }
+suffix_keeps (t.Array place (Some e)) = record { goes = λ around s fit. goes_then s (typed e.0 around s) _ (e.1.goes around s fit) (λ o u c. number_then u (length_operand o) _ (λ n. stays u (by.Array (Some n)) c.fit refl)) }
 suffix_keeps (t.Params place ps) = record { goes = λ around s fit. goes_then s (listing ps.0 around s) _ (ps.1.goes around s fit) (λ params u c. stays u (by.Function params) c.fit c.holds) }
 
 declarator_keeps : (y : Declarator-F AnAbstract AnAccess AnEnumSpec AnExpr AMember AParam AParams ASpec AStructSpec ASuffix ADeclarator AnEnumerator ALink ANext ATypeName) → DeclaringKeeps (declarator_step (part_Declarator (tree_Declarator y)))
@@ -303,7 +300,7 @@ head_goes xs around s fit = goes_then s _ _ (specifiers_keep specifying xs false
 param_keeps : (y : Param-F AnAbstract AnAccess AnEnumSpec AnExpr AMember AParam AParams ASpec AStructSpec ASuffix ADeclarator AnEnumerator ALink ANext ATypeName) → PassingKeeps (param_step (part_Param (tree_Param y)))
 param_keeps (t.Named specs d) = record { goes = λ around s fit.
     goes_then s _ _ (head_goes specs around s fit) (λ h u c.
-    goes_then u _ _ (d.1.form.goes h.attributes around u c.fit) (λ f v e. parameter_keeps _ h f around v e.fit c.holds e.holds)) }
+    goes_then u _ _ (d.1.form.goes h.attributes around u c.fit) (λ f v e. parameter_keeps (Some (declaring d.0).name) h f around v e.fit c.holds e.holds)) }
 param_keeps (t.Unnamed specs form) = record { goes = λ around s fit.
     goes_then s _ _ (head_goes specs around s fit) (λ h u c.
     goes_then u _ _ (form.1.goes h.attributes around u c.fit) (λ f v e. parameter_keeps None h f around v e.fit c.holds e.holds)) }
@@ -356,12 +353,12 @@ enumerators_keep (e ∷ es) around n s fit =
     goes_then s (value_or (counting e.0).value around n s) _ (value_by (counting e.0).value around n s e.1.value fit) (λ m u c.
     goes_then u (declare_constant (counting e.0).name m u) _ (constant_law (counting e.0).name m u c.fit) (λ done v d. enumerators_keep es around (add m 1) v d.fit))
 
-option_by : (e : Option AnExpr) → option_keeps (option_map typed (option_map (λ x. x.0) e))
-option_by None = tt
-option_by (Some e) = e.1
+option_by : (name : Name) (e : Option AnExpr) → CountingKeeps (enumerator_step (part_Enumerator (tree_Enumerator (record { name = name; value = e }))))
+option_by name None = record { value = tt }
+option_by name (Some e) = record { value = e.1 }
 
 enumerator_keeps : (y : Enumerator-F AnAbstract AnAccess AnEnumSpec AnExpr AMember AParam AParams ASpec AStructSpec ASuffix ADeclarator AnEnumerator ALink ANext ATypeName) → CountingKeeps (enumerator_step (part_Enumerator (tree_Enumerator y)))
-enumerator_keeps y = record { value = option_by y.value }
+enumerator_keeps y = option_by y.name y.value
 
 enum_goes : (place : Place) (tag : Option Name) (es : List AnEnumerator) (around : Around) (s : Tables) → IsFit s → Goes TypeAt s (if_file around place (enum_body tag (map counting (firsts es)) around s))
 enum_goes place tag es around s fit = goes_cond s around.scope.is_file _ _

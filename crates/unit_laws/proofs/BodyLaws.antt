@@ -17,6 +17,7 @@ use Rattle.c_ast.specs.declared.stmt.Part.{Part, roll-Part}
 use Rattle.c_ast.specs.declared.stmt.Item.TheOpen as t
 use Rattle.c_ast.specs.declared.stmt.Item.TheOpen.{Item-F, Part-F, Stmt-F, Block-F}
 use Rattle.c_ast.specs.declared.stmt.Item.TheFolds.{map-Item, map-Part, map-Stmt, map-Block, fold-roll-Item, fold-roll-Part, fold-roll-Stmt, fold-roll-Block, ind-Stmt, ind-Block}
+use Rattle.c_types.specs.declared.arith.Arith.{Arith}
 use Rattle.c_types.specs.declared.ctype.CType.{CType}
 use Rattle.c_types.specs.Kind.{is_void}
 use Rattle.c_tree.specs.declared.expr.Expr.{Expr}
@@ -26,7 +27,7 @@ use Rattle.c_tree.specs.declared.stmt.Stmt.TheVariants as stmt
 use Rattle.c_tree.specs.declared.stmt.Stmt.TheVariants.{rolls-Block, rolls-Break, rolls-Continue, rolls-DoWhile, rolls-Empty, rolls-Expr, rolls-For, rolls-If, rolls-Return, rolls-Switch, rolls-While}
 use Rattle.c_tree.specs.declared.stmt.Part.TheVariants as part
 use Rattle.c_tree.specs.declared.stmt.Part.TheVariants.{rolls-Case, rolls-Default, rolls-Stmt}
-use Rattle.c_tree.specs.declared.stmt.Part.TheOpen as s
+use Rattle.c_tree.specs.declared.stmt.Part.TheOpen as layer
 use Rattle.c_tree.specs.declared.stmt.Part.TheFolds as folds
 use Rattle.c_tree.specs.declared.stmt.Part.TheFolds.{fold-Part}
 use Rattle.c_tree.specs.Numbers.{all_true, expr_in_range, in_range_or, or_true, stmt_in_range}
@@ -67,10 +68,10 @@ module _ (a : Range) where
   abbrev part_in : Arm → Bool
   part_in = fold-Part Bool Bool numbers.part_step (numbers.stmt_step a)
 
-  made : (x : s.Stmt-F Arm Stmt) (k : Stmt) → roll-Stmt x ≡ k → numbers.stmt_step a (folds.map-Stmt Arm Stmt Bool Bool part_in (stmt_in_range a) x) ≡ true → stmt_in_range a k ≡ true
+  made : (x : layer.Stmt-F Arm Stmt) (k : Stmt) → roll-Stmt x ≡ k → numbers.stmt_step a (folds.map-Stmt Arm Stmt Bool Bool part_in (stmt_in_range a) x) ≡ true → stmt_in_range a k ≡ true
   made x k is h = ap (stmt_in_range a) (sym is) ∙ (folds.fold-roll-Stmt Bool Bool numbers.part_step (numbers.stmt_step a) x ∙ h)
 
-  part_made : (x : s.Part-F Arm Stmt) (k : Arm) → roll-Arm x ≡ k → numbers.part_step (folds.map-Part Arm Stmt Bool Bool part_in (stmt_in_range a) x) ≡ true → part_in k ≡ true
+  part_made : (x : layer.Part-F Arm Stmt) (k : Arm) → roll-Arm x ≡ k → numbers.part_step (folds.map-Part Arm Stmt Bool Bool part_in (stmt_in_range a) x) ≡ true → part_in k ≡ true
   part_made x k is h = ap part_in (sym is) ∙ (folds.fold-roll-Part Bool Bool numbers.part_step (numbers.stmt_step a) x ∙ h)
 
   mapped : {X : Type 0} (f : X → Bool) (xs : List X) → all_true (map f xs) ≡ list_all f xs
@@ -79,15 +80,15 @@ module _ (a : Range) where
 
   parts_of : (xs : List Stmt) → list_all (stmt_in_range a) xs ≡ true → list_all part_in (map part.Stmt xs) ≡ true
   parts_of [] h = refl
-  parts_of (x ∷ xs) h = both (part_made (s.Stmt x) (part.Stmt x) (rolls-Stmt x) (left (stmt_in_range a x) _ h)) (parts_of xs (right (stmt_in_range a x) _ h))
+  parts_of (x ∷ xs) h = both (part_made (layer.Stmt x) (part.Stmt x) (rolls-Stmt x) (left (stmt_in_range a x) _ h)) (parts_of xs (right (stmt_in_range a x) _ h))
 
-  else_in : Option Stmt → Bool
+  abbrev else_in : Option Stmt → Bool
   else_in None = true
   else_in (Some x) = stmt_in_range a x
 
   if_made : (c : Expr) (x : Stmt) (o : Option Stmt) → expr_in_range a c ≡ true → stmt_in_range a x ≡ true → else_in o ≡ true → stmt_in_range a (stmt.If c x o) ≡ true
-  if_made c x None f g h = made (s.If c x None) _ (rolls-If c x None) (both f (both g refl))
-  if_made c x (Some y) f g h = made (s.If c x (Some y)) _ (rolls-If c x (Some y)) (both f (both g h))
+  if_made c x None f g h = made (layer.If c x None) _ (rolls-If c x None) (both f (both g refl))
+  if_made c x (Some y) f g h = made (layer.If c x (Some y)) _ (rolls-If c x (Some y)) (both f (both g h))
 
 -- ---- simple statements
 
@@ -108,12 +109,12 @@ later_or entry s t o g h = or_wider (range entry s) (range entry t) (within entr
 
 done_keeps : (e : Source) (around : Around) (s : Tables) → IsFit s → Goes (StmtAt around.in_entry) s (done e around s)
     unfolding done
-done_keeps e around s fit = goes_then s (value e around s) _ (value_walk e around s fit) (λ v u c. stays u (stmt.Expr v) c.fit (made (range around.in_entry u) (s.Expr v) (stmt.Expr v) (rolls-Expr v) c.holds.value.numbers))
+done_keeps e around s fit = goes_then s (value e around s) _ (value_walk e around s fit) (λ v u c. stays u (stmt.Expr v) c.fit (made (range around.in_entry u) (layer.Expr v) (stmt.Expr v) (rolls-Expr v) c.holds.value.numbers))
 
 test_law : (a : Range) (v : Expr) (first : Place) → IsMade a v → Answers (λ w. expr_in_range a w ≡ true) (test v first)
 test_law a v first m = answers_unless _ 22 first _ (λ k. told v m.value.numbers)
 
-switch_law : (a : Range) (v : Expr) (first : Place) (o : Option _) → IsMade a v → Answers (λ w. expr_in_range a w ≡ true) (switch_as v first o)
+switch_law : (a : Range) (v : Expr) (first : Place) (o : Option Arith) → IsMade a v → Answers (λ w. expr_in_range a w ≡ true) (switch_as v first o)
 switch_law a v first (Some k) m = told _ (in_kind_law a _ v m.value).numbers
 switch_law a v first None m = silent
 
@@ -126,11 +127,11 @@ switched_keeps : (e : Source) (around : Around) (s : Tables) → IsFit s → Goe
 switched_keeps e around s fit = goes_then s (value e around s) _ (value_walk e around s fit) (λ v u c. keeps u _ c.fit (switch_law (range around.in_entry u) v (first_place e) _ c.holds))
 
 given_law : (a : Range) (gives : CType) (first : Place) (v : Expr) → IsMade a v → Answers (λ x. stmt_in_range a x ≡ true) (given gives first v)
-given_law a gives first v m = answers_then (fitted gives v first) _ (fitted_numbers a gives v first m.value.numbers) (λ w n. told _ (made a (s.Return (Some w)) (stmt.Return (Some w)) (rolls-Return (Some w)) n))
+given_law a gives first v m = answers_then (fitted gives v first) _ (fitted_numbers a gives v first m.value.numbers) (λ w n. told _ (made a (layer.Return (Some w)) (stmt.Return (Some w)) (rolls-Return (Some w)) n))
 
 returned_keeps : (place : Place) (e : Option Source) (gives : CType) (around : Around) (s : Tables) → IsFit s → Goes (StmtAt around.in_entry) s (returned place e gives around s)
     unfolding returned
-returned_keeps place None gives around s fit = goes_unless s (not (is_void gives)) 22 place _ (λ k. stays s (stmt.Return None) fit (made (range around.in_entry s) (s.Return None) (stmt.Return None) (rolls-Return None) refl))
+returned_keeps place None gives around s fit = goes_unless s (not (is_void gives)) 22 place _ (λ k. stays s (stmt.Return None) fit (made (range around.in_entry s) (layer.Return None) (stmt.Return None) (rolls-Return None) refl))
 returned_keeps place (Some e) gives around s fit = goes_then s (value e around s) _ (value_walk e around s fit) (λ v u c. keeps u _ c.fit (given_law (range around.in_entry u) gives (first_place e) v c.holds))
 
 jumped_law : (a : Range) (may : Bool) (x : Stmt) (place : Place) → stmt_in_range a x ≡ true → Answers (λ x. stmt_in_range a x ≡ true) (jumped may x place)
@@ -182,10 +183,10 @@ abbrev ArmsAt : Bool → Arms → Tables → Type 0
 ArmsAt entry x t = AreArms (range entry t) x
 
 cased_law : (a : Range) (place : Place) (n : ℕ) (x : Arms) → AreArms a x → Answers (AreArms a) (cased place n x)
-cased_law a place n x h = answers_unless (has x.cases n) 26 place _ (λ k. told (with_case n x) (record { parts = all_push (part_in a) x.parts (part.Case n) h.parts (part_made a (s.Case n) (part.Case n) (rolls-Case n) refl) }))
+cased_law a place n x h = answers_unless (has x.cases n) 26 place _ (λ k. told (with_case n x) (record { parts = all_push (part_in a) x.parts (part.Case n) h.parts (part_made a (layer.Case n) (part.Case n) (rolls-Case n) refl) }))
 
 defaulted_law : (a : Range) (place : Place) (x : Arms) → AreArms a x → Answers (AreArms a) (defaulted place x)
-defaulted_law a place x h = answers_unless x.has_default 26 place _ (λ k. told (with_default x) (record { parts = all_push (part_in a) x.parts part.Default h.parts (part_made a s.Default part.Default rolls-Default refl) }))
+defaulted_law a place x h = answers_unless x.has_default 26 place _ (λ k. told (with_default x) (record { parts = all_push (part_in a) x.parts part.Default h.parts (part_made a layer.Default part.Default rolls-Default refl) }))
 
 later_part : (entry : Bool) (s t : Tables) (x : Arm) → Grows s t → part_in (range entry s) x ≡ true → part_in (range entry t) x ≡ true
 later_part entry s t x g h = part_wider (range entry s) (range entry t) (within entry s t g) x h
@@ -244,9 +245,8 @@ parts_keep (p ∷ ps) all gives w s fit h = goes_then s (choosing p.0 gives w al
 abbrev ElseAt : Bool → Option Stmt → Tables → Type 0
 ElseAt entry o t = else_in (range entry t) o ≡ true
 
-else_keeps : (o : Option AStmt) (gives : CType) (w : Within) (s : Tables) → IsFit s → Goes (ElseAt w.around.in_entry) s (else_typed (option_map typed (option_map (λ x. x.0) o)) gives w s)
-else_keeps None gives w s fit = stays s None fit refl
-else_keeps (Some x) gives w s fit = goes_then s (typed x.0 gives w s) _ (x.1.goes gives w s fit) (λ y u c. stays u (Some y) c.fit c.holds)
+else_keeps : (x : AStmt) (gives : CType) (w : Within) (s : Tables) → IsFit s → Goes (ElseAt w.around.in_entry) s (else_typed (Some (typed x.0)) gives w s)
+else_keeps x gives w s fit = goes_then s (typed x.0 gives w s) _ (x.1.goes gives w s fit) (λ y u c. stays u (Some y) c.fit c.holds)
 
 -- a block, or what else has a scope of its own, ends
 ends : (w : Within) (s t : Tables) (x : Stmt) → IsFit t → stmt_in_range (range w.around.in_entry t) x ≡ true → Goes (StmtAt w.around.in_entry) t (Ok (x, closed (opened w s) t))
@@ -300,35 +300,39 @@ switch_goes : (ps : List APart) (gives : CType) (w : Within) (u : Tables) → Is
 switch_goes ps gives w u fit = parts_keep ps no_arms gives (switching (opened w u)) u fit (record { parts = refl })
 
 stmt_keeps : (y : Stmt-F AnItem APart AStmt ABlock) → TypingKeeps (stmt_step (part_Stmt (tree_Stmt y)))
-stmt_keeps (t.Block b) = record { goes = λ gives w s fit. goes_then s (listed b.0 gives (opened w s) s) _ (block_goes b gives w s fit) (λ all u c. ends w s u (stmt.Block all) c.fit (made (range w.around.in_entry u) (s.Block all) (stmt.Block all) (rolls-Block all) (mapped (range w.around.in_entry u) _ all ∙ c.holds))) }
-stmt_keeps (t.Empty place) = record { goes = λ gives w s fit. stays s stmt.Empty fit (made (range w.around.in_entry s) s.Empty stmt.Empty rolls-Empty refl) }
+stmt_keeps (t.Block b) = record { goes = λ gives w s fit. goes_then s (listed b.0 gives (opened w s) s) _ (block_goes b gives w s fit) (λ all u c. ends w s u (stmt.Block all) c.fit (made (range w.around.in_entry u) (layer.Block all) (stmt.Block all) (rolls-Block all) (mapped (range w.around.in_entry u) _ all ∙ c.holds))) }
+stmt_keeps (t.Empty place) = record { goes = λ gives w s fit. stays s stmt.Empty fit (made (range w.around.in_entry s) layer.Empty stmt.Empty rolls-Empty refl) }
 stmt_keeps (t.Expr e) = record { goes = λ gives w s fit. done_keeps e w.around s fit }
 stmt_keeps (t.Return place e) = record { goes = λ gives w s fit. returned_keeps place e gives w.around s fit }
-stmt_keeps (t.Break place) = record { goes = λ gives w s fit. keeps s _ fit (jumped_law (range w.around.in_entry s) (w.in_loop || w.in_switch) stmt.Break place (made (range w.around.in_entry s) s.Break stmt.Break rolls-Break refl)) }
-stmt_keeps (t.Continue place) = record { goes = λ gives w s fit. keeps s _ fit (jumped_law (range w.around.in_entry s) w.in_loop stmt.Continue place (made (range w.around.in_entry s) s.Continue stmt.Continue rolls-Continue refl)) }
-stmt_keeps (t.If place test on off) = record { goes = λ gives w s fit.
+stmt_keeps (t.Break place) = record { goes = λ gives w s fit. keeps s _ fit (jumped_law (range w.around.in_entry s) (w.in_loop || w.in_switch) stmt.Break place (made (range w.around.in_entry s) layer.Break stmt.Break rolls-Break refl)) }
+stmt_keeps (t.Continue place) = record { goes = λ gives w s fit. keeps s _ fit (jumped_law (range w.around.in_entry s) w.in_loop stmt.Continue place (made (range w.around.in_entry s) layer.Continue stmt.Continue rolls-Continue refl)) }
+stmt_keeps (t.If place test on None) = record { goes = λ gives w s fit.
     goes_then s (tested test w.around s) _ (tested_keeps test w.around s fit) (λ e u c.
     goes_then u (typed on.0 gives w u) _ (on.1.goes gives w u c.fit) (λ x v d.
-    goes_then v _ _ (else_keeps off gives w v d.fit) (λ y z f.
+    stays v (stmt.If e x None) d.fit (if_made (range w.around.in_entry v) e x None (later_expr w.around.in_entry u v e d.grows c.holds) d.holds refl))) }
+stmt_keeps (t.If place test on (Some off)) = record { goes = λ gives w s fit.
+    goes_then s (tested test w.around s) _ (tested_keeps test w.around s fit) (λ e u c.
+    goes_then u (typed on.0 gives w u) _ (on.1.goes gives w u c.fit) (λ x v d.
+    goes_then v (else_typed (Some (typed off.0)) gives w v) _ (else_keeps off gives w v d.fit) (λ y z f.
     stays z (stmt.If e x y) f.fit (if_made (range w.around.in_entry z) e x y (later_expr w.around.in_entry u z e (grows_trans u v z d.grows f.grows) c.holds) (later_stmt w.around.in_entry v z x f.grows d.holds) f.holds)))) }
 stmt_keeps (t.While place test b) = record { goes = λ gives w s fit.
     goes_then s (tested test w.around s) _ (tested_keeps test w.around s fit) (λ e u c.
     goes_then u (typed b.0 gives (looping w) u) _ (b.1.goes gives (looping w) u c.fit) (λ x v d.
-    stays v (stmt.While e x) d.fit (made (range w.around.in_entry v) (s.While e x) (stmt.While e x) (rolls-While e x) (both (later_expr w.around.in_entry u v e d.grows c.holds) d.holds)))) }
+    stays v (stmt.While e x) d.fit (made (range w.around.in_entry v) (layer.While e x) (stmt.While e x) (rolls-While e x) (both (later_expr w.around.in_entry u v e d.grows c.holds) d.holds)))) }
 stmt_keeps (t.DoWhile place b test) = record { goes = λ gives w s fit.
     goes_then s (typed b.0 gives (looping w) s) _ (b.1.goes gives (looping w) s fit) (λ x u c.
     goes_then u (tested test w.around u) _ (tested_keeps test w.around u c.fit) (λ e v d.
-    stays v (stmt.DoWhile x e) d.fit (made (range w.around.in_entry v) (s.DoWhile x e) (stmt.DoWhile x e) (rolls-DoWhile x e) (both (later_stmt w.around.in_entry u v x d.grows c.holds) d.holds)))) }
+    stays v (stmt.DoWhile x e) d.fit (made (range w.around.in_entry v) (layer.DoWhile x e) (stmt.DoWhile x e) (rolls-DoWhile x e) (both (later_stmt w.around.in_entry u v x d.grows c.holds) d.holds)))) }
 stmt_keeps (t.For place head b) = record { goes = λ gives w s fit.
     goes_then s (headed head (opened w s).around s) _ (head_goes head w s fit) (λ h u c.
     goes_then u (typed b.0 gives (looping (opened w s)) u) _ (for_goes b gives w s u c.fit) (λ x v d.
-    ends w s v (for_of h x) d.fit (made (range w.around.in_entry v) (s.For h.first h.test h.next x) (for_of h x) (rolls-For h.first h.test h.next x)
+    ends w s v (for_of h x) d.fit (made (range w.around.in_entry v) (layer.For h.first h.test h.next x) (for_of h x) (rolls-For h.first h.test h.next x)
     (both (mapped (range w.around.in_entry v) _ h.first ∙ later_stmts w.around.in_entry u v h.first d.grows c.holds.begin)
     (both (later_or w.around.in_entry u v h.test d.grows c.holds.test) (both (later_or w.around.in_entry u v h.next d.grows c.holds.turn) d.holds)))))) }
 stmt_keeps (t.Switch place e ps) = record { goes = λ gives w s fit.
     goes_then s (switched e w.around s) _ (switched_keeps e w.around s fit) (λ x u c.
     goes_then u _ _ (switch_goes ps gives w u c.fit) (λ all v d.
-    ends w u v (switch_of x all) d.fit (made (range w.around.in_entry v) (s.Switch x all.parts) (switch_of x all) (rolls-Switch x all.parts) (both (later_expr w.around.in_entry u v x d.grows c.holds) (mapped (range w.around.in_entry v) _ all.parts ∙ d.holds.parts))))) }
+    ends w u v (switch_of x all) d.fit (made (range w.around.in_entry v) (layer.Switch x all.parts) (switch_of x all) (rolls-Switch x all.parts) (both (later_expr w.around.in_entry u v x d.grows c.holds) (mapped (range w.around.in_entry v) _ all.parts ∙ d.holds.parts))))) }
 
 item_keeps : (y : Item-F AnItem APart AStmt ABlock) → AddingKeeps (item_step (part_Item (tree_Item y)))
 item_keeps (t.Item::Decl d) = record { goes = λ gives w all s fit h.
@@ -345,7 +349,7 @@ part_keeps (t.Part::Decl d) = record { goes = λ gives w all s fit h.
     stays u (with_stmts more all) c.fit (record { parts = all_append (part_in (range w.around.in_entry u)) all.parts (map part.Stmt more) (later_arms w.around.in_entry s u all c.grows h).parts (parts_of (range w.around.in_entry u) more c.holds) })) }
 part_keeps (t.Part::Stmt x) = record { goes = λ gives w all s fit h.
     goes_then s (typed x.0 gives w s) _ (x.1.goes gives w s fit) (λ y u c.
-    stays u (with_stmt y all) c.fit (record { parts = all_push (part_in (range w.around.in_entry u)) all.parts (part.Stmt y) (later_arms w.around.in_entry s u all c.grows h).parts (part_made (range w.around.in_entry u) (s.Stmt y) (part.Stmt y) (rolls-Stmt y) c.holds) })) }
+    stays u (with_stmt y all) c.fit (record { parts = all_push (part_in (range w.around.in_entry u)) all.parts (part.Stmt y) (later_arms w.around.in_entry s u all c.grows h).parts (part_made (range w.around.in_entry u) (layer.Stmt y) (part.Stmt y) (rolls-Stmt y) c.holds) })) }
 
 block_keeps : (y : Block-F AnItem APart AStmt ABlock) → ListingKeeps (block_step (part_Block (tree_Block y)))
 block_keeps y = record { goes = λ gives w s fit. items_keep y.items [] gives w s fit refl }
@@ -374,4 +378,4 @@ listed_walk = ind-Block (λ x. AddingKeeps (adding x)) (λ x. ChoosingKeeps (cho
 -- the body of a function
 pub body_keeps : (b : Block) (gives : CType) (around : Around) (s : Tables) → IsFit s → Goes (StmtAt around.in_entry) s (body b gives around s)
 body_keeps b gives around s fit = goes_then s (listed b gives (outermost around) s) _ ((listed_walk b).goes gives (outermost around) s fit) (λ all u c.
-    stays u (stmt.Block all) c.fit (made (range around.in_entry u) (s.Block all) (stmt.Block all) (rolls-Block all) (mapped (range around.in_entry u) _ all ∙ c.holds)))
+    stays u (stmt.Block all) c.fit (made (range around.in_entry u) (layer.Block all) (stmt.Block all) (rolls-Block all) (mapped (range around.in_entry u) _ all ∙ c.holds)))

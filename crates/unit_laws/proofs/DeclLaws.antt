@@ -17,7 +17,7 @@ use Rattle.c_tree.specs.declared.stmt.Item.{Item}
 use Rattle.c_tree.specs.declared.stmt.Stmt.{Stmt}
 use Rattle.c_tree.specs.declared.stmt.Stmt.TheVariants as stmt
 use Rattle.c_tree.specs.declared.stmt.Stmt.TheVariants.{rolls-Declare}
-use Rattle.c_tree.specs.declared.stmt.Part.TheOpen as s
+use Rattle.c_tree.specs.declared.stmt.Part.TheOpen as layer
 use Rattle.c_tree.specs.declared.stmt.Part.TheFolds.{fold-roll-Stmt}
 use Rattle.c_tree.specs.Numbers.{items_in_range, part_step, stmt_in_range, stmt_step}
 use Rattle.c_tree.specs.Numbers.{Around as Range}
@@ -105,7 +105,7 @@ bare_keeps stored around specs s fit = bare_by stored around specs (lone_tag spe
 -- ---- locals
 
 declare_in : (a : Range) (n : ℕ) (items : List Item) → n < a.locals → items_in_range a items ≡ true → stmt_in_range a (stmt.Declare n items) ≡ true
-declare_in a n items l h = ap (stmt_in_range a) (sym (rolls-Declare n items)) ∙ (fold-roll-Stmt Bool Bool part_step (stmt_step a) (s.Declare n items) ∙ both (lt-ltb n a.locals l) h)
+declare_in a n items l h = ap (stmt_in_range a) (sym (rolls-Declare n items)) ∙ (fold-roll-Stmt Bool Bool part_step (stmt_step a) (layer.Declare n items) ∙ both (lt-ltb n a.locals l) h)
 
 pub later_stmt : (entry : Bool) (s t : Tables) (x : Stmt) → Grows s t → stmt_in_range (range entry s) x ≡ true → stmt_in_range (range entry t) x ≡ true
 later_stmt entry s t x g h = stmt_wider (range entry s) (range entry t) (within entry s t g) x h
