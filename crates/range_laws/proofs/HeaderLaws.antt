@@ -44,7 +44,7 @@ few_of name.IsNsfptr = refl
 few_of name.NonsecureCaller = refl
 
 name_law : (n : HeaderName) (place : Place) (s : Tables) → IsFit s → Goes Anything s (header_name n place s)
-    unfolding header_name
+unfolding header_name
 name_law n place s fit = goes_unless s (is_declared s (text_of n)) 21 place _ (λ k.
     let d = meaning_leads (text_of n) (meaning_of n) s fit (few_of n) in
     comes s (with_meaning (text_of n) (meaning_of n) s) tt d.grows d.fit tt)

@@ -108,7 +108,7 @@ later_or : (entry : Bool) (s t : Tables) (o : Option Expr) → Grows s t → in_
 later_or entry s t o g h = or_wider (range entry s) (range entry t) (within entry s t g) o h
 
 done_keeps : (e : Source) (around : Around) (s : Tables) → IsFit s → Goes (StmtAt around.in_entry) s (done e around s)
-    unfolding done
+unfolding done
 done_keeps e around s fit = goes_then s (value e around s) _ (value_walk e around s fit) (λ v u c. stays u (stmt.Expr v) c.fit (made (range around.in_entry u) (layer.Expr v) (stmt.Expr v) (rolls-Expr v) c.holds.value.numbers))
 
 test_law : (a : Range) (v : Expr) (first : Place) → IsMade a v → Answers (λ w. expr_in_range a w ≡ true) (test v first)
@@ -119,18 +119,18 @@ switch_law a v first (Some k) m = told _ (in_kind_law a _ v m.value).numbers
 switch_law a v first None m = silent
 
 tested_keeps : (e : Source) (around : Around) (s : Tables) → IsFit s → Goes (ExprAt around.in_entry) s (tested e around s)
-    unfolding tested
+unfolding tested
 tested_keeps e around s fit = goes_then s (value e around s) _ (value_walk e around s fit) (λ v u c. keeps u _ c.fit (test_law (range around.in_entry u) v (first_place e) c.holds))
 
 switched_keeps : (e : Source) (around : Around) (s : Tables) → IsFit s → Goes (ExprAt around.in_entry) s (switched e around s)
-    unfolding switched
+unfolding switched
 switched_keeps e around s fit = goes_then s (value e around s) _ (value_walk e around s fit) (λ v u c. keeps u _ c.fit (switch_law (range around.in_entry u) v (first_place e) _ c.holds))
 
 given_law : (a : Range) (gives : CType) (first : Place) (v : Expr) → IsMade a v → Answers (λ x. stmt_in_range a x ≡ true) (given gives first v)
 given_law a gives first v m = answers_then (fitted gives v first) _ (fitted_numbers a gives v first m.value.numbers) (λ w n. told _ (made a (layer.Return (Some w)) (stmt.Return (Some w)) (rolls-Return (Some w)) n))
 
 returned_keeps : (place : Place) (e : Option Source) (gives : CType) (around : Around) (s : Tables) → IsFit s → Goes (StmtAt around.in_entry) s (returned place e gives around s)
-    unfolding returned
+unfolding returned
 returned_keeps place None gives around s fit = goes_unless s (not (is_void gives)) 22 place _ (λ k. stays s (stmt.Return None) fit (made (range around.in_entry s) (layer.Return None) (stmt.Return None) (rolls-Return None) refl))
 returned_keeps place (Some e) gives around s fit = goes_then s (value e around s) _ (value_walk e around s fit) (λ v u c. keeps u _ c.fit (given_law (range around.in_entry u) gives (first_place e) v c.holds))
 
@@ -141,7 +141,7 @@ jumped_law a false x place h = silent
 -- ---- `for`
 
 declared_keeps : (d : Decl) (around : Around) (s : Tables) → IsFit s → Goes (StmtsAt around.in_entry) s (declared d around s)
-    unfolding declared
+unfolding declared
 declared_keeps d around s fit = local_declaration_keeps d around s fit
 
 begun_keeps : (f : First) (around : Around) (s : Tables) → IsFit s → Goes (StmtsAt around.in_entry) s (begun f around s)
@@ -163,7 +163,7 @@ pub record IsHead (entry : Bool) (h : Head) (t : Tables) : Type 0 where
   pub turn : in_range_or (range entry t) h.next ≡ true
 
 headed_keeps : (h : ForHead) (around : Around) (s : Tables) → IsFit s → Goes (IsHead around.in_entry) s (headed h around s)
-    unfolding headed
+unfolding headed
 headed_keeps h around s fit =
     goes_then s (begun h.first around s) _ (begun_keeps h.first around s fit) (λ x u c.
     goes_then u (tested_or h.test around u) _ (tested_or_keeps h.test around u c.fit) (λ test v d.
@@ -203,7 +203,7 @@ number_then a place x (Ok n) h = cased_law a place n x h
 number_then a place x (Err e) h = record { it = tt }
 
 labelled_keeps : (l : Label) (around : Around) (x : Arms) (s : Tables) → IsFit s → AreArms (range around.in_entry s) x → Goes (ArmsAt around.in_entry) s (labelled l around x s)
-    unfolding labelled
+unfolding labelled
 labelled_keeps (label.Case place e) around x s fit h =
     goes_then s (value e around s) _ (value_walk e around s fit) (λ v u c. keeps u _ c.fit (number_then (range around.in_entry u) place x (integer_constant v (first_place e)) (later_arms around.in_entry s u x c.grows h)))
 labelled_keeps (label.Default place) around x s fit h = keeps s _ fit (defaulted_law (range around.in_entry s) place x h)
@@ -250,7 +250,7 @@ else_keeps x gives w s fit = goes_then s (typed x.0 gives w s) _ (x.1.goes gives
 
 -- a block, or what else has a scope of its own, ends
 ends : (w : Within) (s t : Tables) (x : Stmt) → IsFit t → stmt_in_range (range w.around.in_entry t) x ≡ true → Goes (StmtAt w.around.in_entry) t (Ok (x, closed (opened w s) t))
-    unfolding closed
+unfolding closed
 ends w s t x fit h =
     let d = close_block_law (opened w s).around.scope t fit in
     comes t (closed (opened w s) t) x d.grows d.fit (later_stmt w.around.in_entry t (closed (opened w s) t) x d.grows h)
@@ -284,19 +284,19 @@ part_Block = map-Block Item Part Tree Block Adding Choosing Typing Listing addin
 -- a part in a scope of its own
 
 block_goes : (b : ABlock) (gives : CType) (w : Within) (s : Tables) → IsFit s → Goes (StmtsAt w.around.in_entry) s (listed b.0 gives (opened w s) s)
-    unfolding opened
+unfolding opened
 block_goes b gives w s fit = b.1.goes gives (opened w s) s fit
 
 head_goes : (h : ForHead) (w : Within) (s : Tables) → IsFit s → Goes (IsHead w.around.in_entry) s (headed h (opened w s).around s)
-    unfolding opened
+unfolding opened
 head_goes h w s fit = headed_keeps h (opened w s).around s fit
 
 for_goes : (b : AStmt) (gives : CType) (w : Within) (s u : Tables) → IsFit u → Goes (StmtAt w.around.in_entry) u (typed b.0 gives (looping (opened w s)) u)
-    unfolding opened
+unfolding opened
 for_goes b gives w s u fit = b.1.goes gives (looping (opened w s)) u fit
 
 switch_goes : (ps : List APart) (gives : CType) (w : Within) (u : Tables) → IsFit u → Goes (ArmsAt w.around.in_entry) u (parts_from no_arms (map choosing (map (λ x. x.0) ps)) gives (switching (opened w u)) u)
-    unfolding opened
+unfolding opened
 switch_goes ps gives w u fit = parts_keep ps no_arms gives (switching (opened w u)) u fit (record { parts = refl })
 
 stmt_keeps : (y : Stmt-F AnItem APart AStmt ABlock) → TypingKeeps (stmt_step (part_Stmt (tree_Stmt y)))

@@ -65,10 +65,10 @@ use Rattle.unit_laws.proofs.InitLaws.{IsInitialised, initialise_keeps, initialis
 pub record IsHeading (h : Heading) (t : Tables) : Type 0 where
   pub base : few h.base ≡ true
 
-heading_law : (it : Specified) (t : Tables) → words_few it.words ≡ true → Answers (λ h. IsHeading h t) (as_heading it)
+pub heading_law : (it : Specified) (t : Tables) → words_few it.words ≡ true → Answers (λ h. IsHeading h t) (as_heading it)
 heading_law it t h = answers_then (base_of it) _ (specified_law it.words (start_of it) h) (λ ty k. told _ (record { base = k }))
 
-heading_keeps : (stored : Bool) (around : Around) (specs : List Spec) (s : Tables) → IsFit s → Goes IsHeading s (heading_of stored around specs s)
+pub heading_keeps : (stored : Bool) (around : Around) (specs : List Spec) (s : Tables) → IsFit s → Goes IsHeading s (heading_of stored around specs s)
 heading_keeps stored around specs s fit = goes_then s (specifiers stored around specs s) _ (specifiers_goes specs stored around s fit) (λ it u c. keeps u (as_heading it) c.fit (heading_law it u c.holds))
 
 pub record IsDeclared (d : Declared) (t : Tables) : Type 0 where
@@ -85,10 +85,10 @@ with_all : (r : Checked Attributes) (ty : CType) (t : Tables) → few ty ≡ tru
 with_all (Ok all) ty t h = told _ (record { typed = h })
 with_all (Err e) ty t h = record { it = tt }
 
-declared_law : (h : Heading) (place : Place) (attrs : List Attr) (f : Formed) (t : Tables) → few h.base ≡ true → derivations_few f.derivations ≡ true → Answers (λ d. IsDeclared d t) (declared_as h place attrs f)
+pub declared_law : (h : Heading) (place : Place) (attrs : List Attr) (f : Formed) (t : Tables) → few h.base ≡ true → derivations_few f.derivations ≡ true → Answers (λ d. IsDeclared d t) (declared_as h place attrs f)
 declared_law h place attrs f t b d = answers_then (declared_type h f place) _ (type_law h f place b d) (λ ty k. with_all (attributes attrs f.attributes) ty t k)
 
-declared_keeps : (h : Heading) (d : Declarator) (attrs : List Attr) (around : Around) (s : Tables) → IsFit s → few h.base ≡ true → Goes IsDeclared s (declared_by h d attrs around s)
+pub declared_keeps : (h : Heading) (d : Declarator) (attrs : List Attr) (around : Around) (s : Tables) → IsFit s → few h.base ≡ true → Goes IsDeclared s (declared_by h d attrs around s)
 declared_keeps h d attrs around s fit b = goes_then s (forming d.form h.attributes around s) _ ((forming_walk d.form).goes h.attributes around s fit) (λ f u c. keeps u _ c.fit (declared_law h d.name.place attrs f u b c.holds))
 
 any_kept : {A : Type 0} (s : Tables) (r : Checked A) → IsFit s → Goes Anything s (keeping s r)
@@ -99,7 +99,7 @@ bare_by : (stored : Bool) (around : Around) (specs : List Spec) (o : Option Name
 bare_by stored around specs (Some name) s fit = goes_then s (declare_struct around.scope name s) _ (declare_struct_law around.scope name s fit) (λ ty u c. stays u tt c.fit tt)
 bare_by stored around specs None s fit = goes_then s (specifiers stored around specs s) _ (specifiers_goes specs stored around s fit) (λ it u c. any_kept u (declares it) c.fit)
 
-bare_keeps : (stored : Bool) (around : Around) (specs : List Spec) (s : Tables) → IsFit s → Goes Anything s (bare stored around specs s)
+pub bare_keeps : (stored : Bool) (around : Around) (specs : List Spec) (s : Tables) → IsFit s → Goes Anything s (bare stored around specs s)
 bare_keeps stored around specs s fit = bare_by stored around specs (lone_tag specs) s fit
 
 -- ---- locals
@@ -126,11 +126,11 @@ value_keeps n t place (Some x) around s fit f l =
 made_keeps : (name : Name) (t : CType) (o : Option Initial) (around : Around) (s : Tables) → IsFit s → few t ≡ true → Goes (StmtAt around.in_entry) s (local_made name t o around s)
 made_keeps name t o around s fit f = goes_then s (declare_local around.scope name t (is_some o) s) _ (local_law around.scope name t (is_some o) s fit f) (λ n u c. value_keeps n t name.place o around u c.fit f c.holds)
 
-local_keeps : (name : Name) (d : Declared) (o : Option Initial) (around : Around) (s : Tables) → IsFit s → few d.ctype ≡ true → Goes (StmtAt around.in_entry) s (local_declared name d o around s)
+pub local_keeps : (name : Name) (d : Declared) (o : Option Initial) (around : Around) (s : Tables) → IsFit s → few d.ctype ≡ true → Goes (StmtAt around.in_entry) s (local_declared name d o around s)
 local_keeps name d o around s fit f = goes_unless s (is_function d.ctype) 27 name.place _ (λ k.
     then_goes s (attributed d.attributes Other d.ctype name.place) _ (attributed_law d.attributes Other d.ctype name.place f) (λ t g. made_keeps name t o around s fit g))
 
-init_keeps : (h : Heading) (x : Init) (around : Around) (s : Tables) → IsFit s → few h.base ≡ true → Goes (StmtAt around.in_entry) s (local_init h x around s)
+pub init_keeps : (h : Heading) (x : Init) (around : Around) (s : Tables) → IsFit s → few h.base ≡ true → Goes (StmtAt around.in_entry) s (local_init h x around s)
 init_keeps h x around s fit b = goes_then s (declared_by h x.declarator x.attrs around s) _ (declared_keeps h x.declarator x.attrs around s fit b) (λ d u c. local_keeps x.declarator.name d x.value around u c.fit c.holds.typed)
 
 inits_keep : (h : Heading) (around : Around) (done : List Stmt) (xs : List Init) (s : Tables) → IsFit s → few h.base ≡ true → list_all (stmt_in_range (range around.in_entry s)) done ≡ true → Goes (StmtsAt around.in_entry) s (local_inits h around done xs s)
@@ -146,20 +146,20 @@ local_declaration_keeps d around s fit = goes_cond s (eqb (length d.inits) 0) _ 
 
 -- ---- file scope
 
-function_keeps : (h : Heading) (name : Name) (d : Declared) (s : Tables) → IsFit s → few d.ctype ≡ true → Goes Anything s (function_declared h name d s)
+pub function_keeps : (h : Heading) (name : Name) (d : Declared) (s : Tables) → IsFit s → few d.ctype ≡ true → Goes Anything s (function_declared h name d s)
 function_keeps h name d s fit f = then_goes s (attributed d.attributes Function d.ctype name.place) _ (attributed_law d.attributes Function d.ctype name.place f) (λ t g. function_law name t (linkage h d.attributes) s fit g)
 
-typedef_keeps : (name : Name) (d : Declared) (s : Tables) → IsFit s → few d.ctype ≡ true → Goes Anything s (typedef_declared name d s)
+pub typedef_keeps : (name : Name) (d : Declared) (s : Tables) → IsFit s → few d.ctype ≡ true → Goes Anything s (typedef_declared name d s)
 typedef_keeps name d s fit f = then_goes s (attributed d.attributes Other d.ctype name.place) _ (attributed_law d.attributes Other d.ctype name.place f) (λ t g. typedef_law name t s fit g)
 
 nonsecure_if_object : (o : Option Place) (t : CType) (place : Place) → is_function t ≡ false → Answers IsObject (nonsecure_if o t place)
 nonsecure_if_object (Some at) t place h = nonsecure_object t place h
 nonsecure_if_object None t place h = told t h
 
-attributed_object : (attrs : Attributes) (on : Subject) (t : CType) (place : Place) → is_function t ≡ false → Answers IsObject (attributed attrs on t place)
+pub attributed_object : (attrs : Attributes) (on : Subject) (t : CType) (place : Place) → is_function t ≡ false → Answers IsObject (attributed attrs on t place)
 attributed_object attrs on t place h = answers_unless (misplaced attrs on) 40 place _ (λ k. nonsecure_if_object attrs.call t place h)
 
-and_so : {A : Type 0} {Q R : A → Type 0} (r : Checked A) → Answers Q r → Answers R r → Answers (λ x. Q x × R x) r
+pub and_so : {A : Type 0} {Q R : A → Type 0} (r : Checked A) → Answers Q r → Answers R r → Answers (λ x. Q x × R x) r
 and_so (Ok x) h g = record { it = (h.it, g.it) }
 and_so (Err e) h g = record { it = tt }
 

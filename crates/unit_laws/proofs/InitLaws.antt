@@ -75,12 +75,12 @@ module _ (a : Range) where
   as_in f k t place at done None h = push_in done (constant_item t place at 0) h (const_in a 0 (unqualified t) place)
 
   blank_in : (deep : ℕ) (structs : List StructInfo) (place : Place) → KeepsIn (blank deep structs place)
-      unfolding blank
+  unfolding blank
   blank_in zero structs place t at done h = h
   blank_in (suc deep) structs place t at done h = as_in (blank deep structs place) (blank_in deep structs place) t place at done (parts_of structs t) h
 
   rest_in : (structs : List StructInfo) (ps : Parts) (place : Place) (at i : ℕ) (done : List Item) → In done → In (rest_blank structs ps place at i done)
-      unfolding rest_blank
+  unfolding rest_blank
   rest_in structs ps place at i done h = from_in (blank 4294967295 structs place) (blank_in 4294967295 structs place) ps at i (count ps - i) done h
 
   chars_in : (k : Arith) (of : CType) (place : Place) (at : ℕ) (done : List Item) (bs : List ℕ) → In done → In (chars_from k of place at done bs)
