@@ -84,10 +84,10 @@ stmt_step (t.Expr e) gives w s = done e w.around s
 stmt_step (t.Return place e) gives w s = returned place e gives w.around s
 stmt_step (t.Break place) gives w s = keeping s (broken place w)
 stmt_step (t.Continue place) gives w s = keeping s (continued place w)
-stmt_step (t.If place test yes no) gives w s =
+stmt_step (t.If place test on off) gives w s =
     tested test w.around s >>> (λ c u.
-    yes gives w u >>> (λ x v.
-    else_typed no gives w v >>> (λ y z. Ok (stmt.If c x y, z))))
+    on gives w u >>> (λ x v.
+    else_typed off gives w v >>> (λ y z. Ok (stmt.If c x y, z))))
 stmt_step (t.While place test body) gives w s =
     tested test w.around s >>> (λ c u.
     body gives (looping w) u >>> (λ x v. Ok (stmt.While c x, v)))
@@ -138,7 +138,7 @@ parts ps = parts_from no_arms (map choosing ps)
 
 -- what stands behind `else`
 abbrev pub otherwise : Option Tree → CType → Within → Step (Option Stmt)
-otherwise no = else_typed (option_map typed no)
+otherwise off = else_typed (option_map typed off)
 
 -- The body of a function that gives this type, in the scope of its parameters: its block has no scope of its own (C11 6.2.1,
 -- paragraph 4).
