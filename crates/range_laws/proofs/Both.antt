@@ -1,5 +1,5 @@
 -- `&&`, and lists of which each element passes a test.
-use Rattle.std.proofs.Common.{◌≡◌, ℕ, zero, suc, Bool, true, false, ◌&&◌, cond, not, List, [], ◌∷◌, ◌++◌, map, length, take, ap, sym, ◌∙◌, refl, true≢false, Option, None, Some, slice_get, slice_set, reverse, subst}
+use Rattle.std.proofs.Common.{◌≡◌, ℕ, zero, suc, Bool, true, false, ◌&&◌, List, [], ◌∷◌, ◌++◌, map, take, ap, sym, ◌∙◌, refl, true≢false, Option, None, Some, slice_get, slice_set, reverse, subst}
 use Rattle.std.proofs.lemmas.List.{reverse-append}
 use Rattle.std.specs.List.{list_all}
 

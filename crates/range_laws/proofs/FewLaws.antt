@@ -1,23 +1,18 @@
 -- Types that are derived from types with few parameters.
-use Rattle.std.proofs.Common.{◌≡◌, ℕ, zero, suc, Bool, true, false, ◌&&◌, ◌||◌, not, nat_le, nat_lt, cond, List, [], ◌∷◌, map, length, ap, ap₂, sym, ◌∙◌, subst, refl, Option, None, Some, option_map, slice_get, rules, arith}
+use Rattle.std.proofs.Common.{◌≡◌, ℕ, zero, suc, Bool, true, ◌&&◌, ◌||◌, not, nat_le, List, [], ◌∷◌, map, length, ap, ap₂, sym, ◌∙◌, refl, Option, rules}
 use Rattle.std.proofs.lemmas.List.{length-map}
 use Rattle.std.specs.List.{list_all}
-use Rattle.cm_base.specs.declared.place.Place.{Place}
 use Rattle.c_types.specs.declared.arith.Arith.{Arith}
-use Rattle.c_types.specs.declared.ctype.CType.{CType, roll-CType}
+use Rattle.c_types.specs.declared.ctype.CType.{CType}
 use Rattle.c_types.specs.declared.ctype.Shape.{Shape, out-Shape, roll-Shape}
 use Rattle.c_types.specs.declared.ctype.Shape.TheVariants as made
 use Rattle.c_types.specs.declared.ctype.Shape.TheVariants.{rolls-Void, rolls-Arith, rolls-Pointer, rolls-Array, rolls-Struct, rolls-Function}
 use Rattle.c_types.specs.declared.ctype.Shape.TheOpen as shape
 use Rattle.c_types.specs.declared.ctype.Shape.TheOpen.{Shape-F, CType-F}
-use Rattle.c_types.specs.declared.ctype.Shape.TheFolds.{map-Shape, map-CType, fold-CType, fold-Shape, fold-roll-Shape, fold-roll-CType, fold_out-Shape, ind-CType, the_lemmas}
+use Rattle.c_types.specs.declared.ctype.Shape.TheFolds.{map-Shape, fold-CType, fold-roll-Shape, fold_out-Shape, the_lemmas}
 use Rattle.c_types.specs.Kind.{Look, look, element, element_of, referenced, referenced_by}
-use Rattle.c_types.specs.Derived.{arith_type, array_of, decayed, decayed_as, dimensions, function, parameter, plain, pointer_to, qualified, qualified_in, unqualified, with_elements}
-use Rattle.c_rows.specs.Answers.{fault}
+use Rattle.c_types.specs.Derived.{arith_type, decayed, decayed_as, dimensions, plain, qualified, qualified_in, with_elements}
 use Rattle.range_laws.specs.Few.{all_few, few, few_in, few_or, shape_few, type_few}
-use Rattle.range_laws.specs.Steps.{Answers}
-use Rattle.range_laws.proofs.Both.{both, left, no, right}
-use Rattle.range_laws.proofs.Moves.{silent, told}
 
 -- a whole type is few where its shape is
 pub few_whole : (t : CType) → fold-CType Bool Bool shape_few type_few t ≡ few t

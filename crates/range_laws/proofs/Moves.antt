@@ -1,6 +1,6 @@
 -- One check or one step after another keeps what each of them keeps.
-use Rattle.std.proofs.Common.{◌≡◌, ℕ, ◌≤◌, Bool, true, false, cond, length, arith, le_trans, le_refl, Option, Some, None, refl, subst}
-use Rattle.std.specs.Prelude.{Result, Ok, Err}
+use Rattle.std.proofs.Common.{◌≡◌, ℕ, Bool, true, false, cond, length, le_trans, le_refl, refl}
+use Rattle.std.specs.Prelude.{Ok, Err}
 use Rattle.cm_base.specs.declared.place.Place.{Place}
 use Rattle.c_tree.specs.Numbers.{Names}
 use Rattle.c_scope.specs.declared.tables.Tables.{Tables}

@@ -1,5 +1,5 @@
 -- Types that are one are both types of functions, or neither is.
-use Rattle.std.proofs.Common.{◌≡◌, ℕ, ◌&&◌, Bool, true, false, List, map, ap, sym, ◌∙◌, subst, refl, rules}
+use Rattle.std.proofs.Common.{◌≡◌, ◌&&◌, Bool, true, map, ap, sym, ◌∙◌, subst, refl, rules}
 use Rattle.c_types.specs.declared.ctype.CType.{CType}
 use Rattle.c_types.specs.declared.ctype.Shape.{Shape, out-Shape}
 use Rattle.c_types.specs.declared.ctype.Shape.TheOpen as shape

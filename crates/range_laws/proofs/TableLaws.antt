@@ -1,13 +1,11 @@
 -- Declarations add numbers and take none away.
-use Rattle.std.proofs.Common.{◌≡◌, ℕ, zero, suc, ◌+◌, ◌<◌, ◌≤◌, Bool, true, false, ◌&&◌, ◌||◌, not, cond, nat_lt, is_some, ltb, List, [], ◌∷◌, ◌++◌, map, length, take, min, ap, sym, ◌∙◌, subst, refl, arith, le_refl, Option, None, Some, Ok, Err, slice_get, slice_set, option_map, length-take, length-set}
-use Rattle.std.specs.List.{list_all}
+use Rattle.std.proofs.Common.{◌≡◌, ℕ, zero, suc, ◌<◌, ◌≤◌, Bool, true, false, ◌||◌, not, cond, is_some, List, [], ◌∷◌, ◌++◌, map, length, ap, sym, ◌∙◌, subst, refl, arith, le_refl, Option, None, Some, Ok, Err, slice_get, slice_set, option_map, length-take, length-set}
 use Rattle.std.proofs.lemmas.List.{length_push}
 use Rattle.std.proofs.lemmas.Option.{slice_get-map}
 use Rattle.cm_base.specs.declared.place.Place.{Place}
 use Rattle.c_ast.specs.declared.expr.Name.{Name}
 use Rattle.c_types.specs.declared.ctype.CType.{CType}
 use Rattle.c_types.specs.declared.ctype.Shape.TheOpen as shape
-use Rattle.c_types.specs.declared.same.Units.TheVariants.{One}
 use Rattle.c_types.specs.Kind.{Look, is_function, look, looks_function}
 use Rattle.c_types.specs.Same.{same_type}
 use Rattle.c_types.specs.Sizes.{align_of, fits, size_of}
@@ -28,19 +26,18 @@ use Rattle.c_scope.specs.declared.tables.Tables.{Tables}
 use Rattle.c_scope.specs.declared.tables.Tag.{Tag}
 use Rattle.c_scope.specs.declared.tables.Tag.TheVariants.{Struct, Enum}
 use Rattle.c_scope.specs.Index.{place_of}
-use Rattle.c_scope.specs.Steps.{Step, ◌>>>◌, keeping, refuse}
 use Rattle.c_scope.specs.Blocks as blocks
 use Rattle.c_scope.specs.Blocks.{close_block, close_parameters, complete_as, complete_local, declare_local, declare_named, declare_parameter, declare_unnamed, open_parameters, parameter_fault, with_local, with_named}
 use Rattle.c_scope.specs.Layout.{added, placed, placed_as}
-use Rattle.c_scope.specs.Tags.{begin_enum, begin_struct, begun_again, begun_as, declare_struct, end_struct, ended, enum_use, finished, first_seen, is_enum, known_type, struct_as, struct_type, struct_use, tag_in, tag_of, file_tag, unknown, with_block_tag, with_file_tag, with_struct, with_tag}
+use Rattle.c_scope.specs.Tags.{begin_enum, begin_struct, begun_again, begun_as, declare_struct, end_struct, ended, finished, first_seen, known_type, struct_as, struct_type, struct_use, tag_in, tag_of, file_tag, unknown, with_block_tag, with_file_tag, with_struct, with_tag}
 use Rattle.c_scope.specs.FileScope.{clashes, clashes_as, clashes_at, clashes_with, complete_object, completed, completed_as, declare_constant, declare_function, declare_object, declare_typedef, declared, declared_again, declared_as, declared_at, define_function, defined_as, first_known, together, with_body, with_known, with_meaning, with_state}
-use Rattle.range_laws.specs.Ranges.{Grows, NamesWithin, extern_of, externs_of, names}
+use Rattle.range_laws.specs.Ranges.{Grows, NamesWithin, extern_of, names}
 use Rattle.range_laws.specs.Few.{IsFit, few, meaning_few, members_few}
 use Rattle.range_laws.specs.Steps.{Answers, Anything, Came, Goes, HasFew, IsLocal, IsObjectAt, Leads, TypeIsFew}
 use Rattle.range_laws.proofs.Both.{all_get, all_push, all_set, all_take, no, or_pass}
 use Rattle.range_laws.proofs.FewLaws.{few_struct}
 use Rattle.range_laws.proofs.SameLaws.{functions_alike}
-use Rattle.range_laws.proofs.Moves.{answers_unless, behind, comes, goes_then, goes_unless, grows_same, grows_trans, keeps, names_same, silent, stays, stops, told}
+use Rattle.range_laws.proofs.Moves.{answers_unless, comes, goes_unless, grows_same, grows_trans, keeps, names_same, silent, stays, stops, told}
 
 -- ---- the externs of two tables
 

@@ -1,11 +1,11 @@
 -- Types in which each Non-secure function type has at most four parameters (ECM0359818, 5.5).
-use Rattle.std.specs.Prelude.{◌≡◌, ℕ, Bool, true, not, ◌&&◌, ◌||◌, nat_le, List, length, Option, Some, None}
+use Rattle.std.specs.Prelude.{◌≡◌, Bool, true, not, ◌&&◌, ◌||◌, nat_le, List, length, Option, Some, None}
 use Rattle.std.specs.List.{list_all}
 use Rattle.c_types.specs.declared.ctype.CType.{CType}
 use Rattle.c_types.specs.declared.ctype.Shape.{Shape}
 use Rattle.c_types.specs.declared.ctype.Shape.TheOpen as shape
 use Rattle.c_types.specs.declared.ctype.Shape.TheOpen.{Shape-F, CType-F}
-use Rattle.c_types.specs.declared.ctype.Shape.TheFolds.{fold-CType, fold-Shape}
+use Rattle.c_types.specs.declared.ctype.Shape.TheFolds.{fold-Shape}
 use Rattle.c_tree.specs.declared.program.TLocal.{TLocal}
 use Rattle.c_tree.specs.Numbers.{all_true}
 use Rattle.c_scope.specs.declared.tables.Known.{Known}

@@ -1,5 +1,5 @@
 -- What holds of each answer of a check, and of each step over tables, unless it is a fault.
-use Rattle.std.specs.Prelude.{◌≡◌, ℕ, ◌<◌, Bool, true, length, Result, Ok, Err}
+use Rattle.std.specs.Prelude.{◌≡◌, ℕ, ◌<◌, true, length, Ok, Err}
 use Rattle.c_types.specs.declared.ctype.CType.{CType}
 use Rattle.c_scope.specs.declared.tables.Layout.{Layout}
 use Rattle.c_scope.specs.declared.tables.Tables.{Tables}
