@@ -213,34 +213,48 @@ expr_keeps (t.Expr::Step place op e) = record { goes = λ around s fit. goes_the
 expr_keeps (t.Unary place op e) = record { goes = λ around s fit. goes_then s (typed e.0 around s) _ (e.1.goes around s fit) (λ o u c. keeps u _ c.fit (laws.unary_law (range around.in_entry u) op place o c.holds)) }
 expr_keeps (t.SizeofExpr place e) = record { goes = λ around s fit. goes_then s (typed e.0 around s) _ (e.1.goes around s fit) (λ o u c. keeps u _ c.fit (laws.sized_law (range around.in_entry u) place o c.holds)) }
 expr_keeps (t.SizeofType place name) = record { goes = λ around s fit. goes_then s (type_name name.0 around s) _ (name.1.goes around s fit) (λ to u c. keeps u _ c.fit (laws.sized_type_law (range around.in_entry u) place to)) }
-expr_keeps (t.Cast place name e) = record { goes = λ around s fit.
-    goes_then s (type_name name.0 around s) _ (name.1.goes around s fit) (λ to u c.
-    goes_then u (typed e.0 around u) _ (e.1.goes around u c.fit) (λ o v d. keeps v _ d.fit (laws.cast_law (range around.in_entry v) place to o c.holds d.holds))) }
-expr_keeps (t.Binary first more) = record { goes = λ around s fit.
-    goes_then s (typed first.0 around s) _ (first.1.goes around s fit) (λ o u c.
-    then_goes u (value_of o) _ (value_law (range around.in_entry u) o c.holds) (λ x m. links_keep linked_of more around o.first x u c.fit m)) }
-expr_keeps (t.Choice place a b e) = record { goes = λ around s fit.
-    goes_then s (typed a.0 around s) _ (a.1.goes around s fit) (λ o u c.
-    then_goes u (value_of o) _ (value_law (range around.in_entry u) o c.holds) (λ x m.
-    goes_then u (typed b.0 around u) _ (b.1.goes around u c.fit) (λ p v d.
-    then_goes v (value_of p) _ (value_law (range around.in_entry v) p d.holds) (λ y n.
-    goes_then v (typed e.0 around v) _ (e.1.goes around v d.fit) (λ q w f.
-    keeps w _ f.fit (laws.chosen_law (range around.in_entry w) place o.first x y q (later_made around.in_entry u w x (grows_trans u v w d.grows f.grows) m) (later_made around.in_entry v w y f.grows n) f.holds)))))) }
-expr_keeps (t.Assign place op to e) = record { goes = λ around s fit.
-    goes_then s (typed to.0 around s) _ (to.1.goes around s fit) (λ o u c.
-    then_goes u (tree_of o) _ (tree_law (range around.in_entry u) o c.holds) (λ x h.
-    goes_then u (typed e.0 around u) _ (e.1.goes around u c.fit) (λ p v d.
-    keeps v _ d.fit (laws.assigned_law (range around.in_entry v) op place o.first x p (tree_wider (range around.in_entry u) (range around.in_entry v) (within around.in_entry u v d.grows) x h) d.holds)))) }
-expr_keeps (t.Comma first more) = record { goes = λ around s fit.
-    goes_then s (typed first.0 around s) _ (first.1.goes around s fit) (λ o u c.
-    then_goes u (value_of o) _ (value_law (range around.in_entry u) o c.holds) (λ x m. commas_keep following_of more around o.first x u c.fit m)) }
+expr_keeps (t.Cast place name e) = record {
+  goes = λ around s fit.
+      goes_then s (type_name name.0 around s) _ (name.1.goes around s fit) (λ to u c.
+      goes_then u (typed e.0 around u) _ (e.1.goes around u c.fit) (λ o v d. keeps v _ d.fit (laws.cast_law (range around.in_entry v) place to o c.holds d.holds)));
+}
+expr_keeps (t.Binary first more) = record {
+  goes = λ around s fit.
+      goes_then s (typed first.0 around s) _ (first.1.goes around s fit) (λ o u c.
+      then_goes u (value_of o) _ (value_law (range around.in_entry u) o c.holds) (λ x m. links_keep linked_of more around o.first x u c.fit m));
+}
+expr_keeps (t.Choice place a b e) = record {
+  goes = λ around s fit.
+      goes_then s (typed a.0 around s) _ (a.1.goes around s fit) (λ o u c.
+      then_goes u (value_of o) _ (value_law (range around.in_entry u) o c.holds) (λ x m.
+      goes_then u (typed b.0 around u) _ (b.1.goes around u c.fit) (λ p v d.
+      then_goes v (value_of p) _ (value_law (range around.in_entry v) p d.holds) (λ y n.
+      goes_then v (typed e.0 around v) _ (e.1.goes around v d.fit) (λ q w f.
+      keeps w _ f.fit (laws.chosen_law (range around.in_entry w) place o.first x y q (later_made around.in_entry u w x (grows_trans u v w d.grows f.grows) m) (later_made around.in_entry v w y f.grows n) f.holds))))));
+}
+expr_keeps (t.Assign place op to e) = record {
+  goes = λ around s fit.
+      goes_then s (typed to.0 around s) _ (to.1.goes around s fit) (λ o u c.
+      then_goes u (tree_of o) _ (tree_law (range around.in_entry u) o c.holds) (λ x h.
+      goes_then u (typed e.0 around u) _ (e.1.goes around u c.fit) (λ p v d.
+      keeps v _ d.fit (laws.assigned_law (range around.in_entry v) op place o.first x p (tree_wider (range around.in_entry u) (range around.in_entry v) (within around.in_entry u v d.grows) x h) d.holds))));
+}
+expr_keeps (t.Comma first more) = record {
+  goes = λ around s fit.
+      goes_then s (typed first.0 around s) _ (first.1.goes around s fit) (λ o u c.
+      then_goes u (value_of o) _ (value_law (range around.in_entry u) o c.holds) (λ x m. commas_keep following_of more around o.first x u c.fit m));
+}
 
 access_keeps : (y : Access-F AnAbstract AnAccess AnEnumSpec AnExpr AMember AParam AParams ASpec AStructSpec ASuffix ADeclarator AnEnumerator ALink ANext ATypeName) → ReachKeeps (access_step (part_Access (tree_Access y)))
-access_keeps (t.Index place i) = record { goes = λ around left s fit h.
-    then_goes s (value_of left) _ (value_law (range around.in_entry s) left h) (λ x m.
-    goes_then s (typed i.0 around s) _ (i.1.goes around s fit) (λ o u c. keeps u _ c.fit (laws.element_law (range around.in_entry u) place left.first x o (later_made around.in_entry s u x c.grows m) c.holds))) }
-access_keeps (t.Call place args) = record { goes = λ around left s fit h.
-    goes_then s _ _ (arguments_keep typed args around [] s fit tt) (λ xs u c. keeps u _ c.fit (laws.called_operand_law (range around.in_entry u) place left xs (later_operand around.in_entry s u left c.grows h) c.holds)) }
+access_keeps (t.Index place i) = record {
+  goes = λ around left s fit h.
+      then_goes s (value_of left) _ (value_law (range around.in_entry s) left h) (λ x m.
+      goes_then s (typed i.0 around s) _ (i.1.goes around s fit) (λ o u c. keeps u _ c.fit (laws.element_law (range around.in_entry u) place left.first x o (later_made around.in_entry s u x c.grows m) c.holds)));
+}
+access_keeps (t.Call place args) = record {
+  goes = λ around left s fit h.
+      goes_then s _ _ (arguments_keep typed args around [] s fit tt) (λ xs u c. keeps u _ c.fit (laws.called_operand_law (range around.in_entry u) place left xs (later_operand around.in_entry s u left c.grows h) c.holds));
+}
 access_keeps (t.Member place name) = record { goes = λ around left s fit h. keeps s _ fit (laws.member_law around.in_entry s fit place name left h) }
 access_keeps (t.Arrow place name) = record { goes = λ around left s fit h. keeps s _ fit (laws.arrow_law around.in_entry s fit place name left h) }
 access_keeps (t.Access::Step place op) = record { goes = λ around left s fit h. keeps s _ fit (laws.stepped_law (range around.in_entry s) op place true left.first left h) }
@@ -261,12 +275,16 @@ stars_then stars attrs s f h = by (star_attributes stars attrs)
     by (Err e) = record { it = tt }
 
 abstract_keeps : (y : Abstract-F AnAbstract AnAccess AnEnumSpec AnExpr AMember AParam AParams ASpec AStructSpec ASuffix ADeclarator AnEnumerator ALink ANext ATypeName) → FormingKeeps (abstract_step (part_Abstract (tree_Abstract y)))
-abstract_keeps (t.Plain stars suffixes) = record { goes = λ attrs around s fit.
-    stars_then stars attrs s _ (λ bs. goes_then s _ _ (suffixes_keep derives suffixes around [] s fit refl) (λ ds u c. stays u (formed stars ds [] bs) c.fit (formed_few stars ds [] bs c.holds refl))) }
-abstract_keeps (t.Abstract::Group stars place inner suffixes) = record { goes = λ attrs around s fit.
-    stars_then stars attrs s _ (λ bs.
-    goes_then s (forming inner.0 bs around s) _ (inner.1.goes bs around s fit) (λ f u c.
-    goes_then u _ _ (suffixes_keep derives suffixes around [] u c.fit refl) (λ ds v d. stays v (formed stars ds f.derivations f.attributes) d.fit (formed_few stars ds f.derivations f.attributes d.holds c.holds)))) }
+abstract_keeps (t.Plain stars suffixes) = record {
+  goes = λ attrs around s fit.
+      stars_then stars attrs s _ (λ bs. goes_then s _ _ (suffixes_keep derives suffixes around [] s fit refl) (λ ds u c. stays u (formed stars ds [] bs) c.fit (formed_few stars ds [] bs c.holds refl)));
+}
+abstract_keeps (t.Abstract::Group stars place inner suffixes) = record {
+  goes = λ attrs around s fit.
+      stars_then stars attrs s _ (λ bs.
+      goes_then s (forming inner.0 bs around s) _ (inner.1.goes bs around s fit) (λ f u c.
+      goes_then u _ _ (suffixes_keep derives suffixes around [] u c.fit refl) (λ ds v d. stays v (formed stars ds f.derivations f.attributes) d.fit (formed_few stars ds f.derivations f.attributes d.holds c.holds))));
+}
 
 number_then : (u : Tables) (r : Checked ℕ) (f : ℕ → Checked (Derivation × Tables)) → ((n : ℕ) → Goes DerivationAt u (f n)) → Goes DerivationAt u (r >>= f)
 number_then u (Ok n) f h = h n
@@ -298,19 +316,25 @@ head_goes : (xs : List ASpec) (around : Around) (s : Tables) → IsFit s → Goe
 head_goes xs around s fit = goes_then s _ _ (specifiers_keep specifying xs false around none_yet s fit refl) (λ it u c. keeps u (head_of it) c.fit (head_of_law it c.holds))
 
 param_keeps : (y : Param-F AnAbstract AnAccess AnEnumSpec AnExpr AMember AParam AParams ASpec AStructSpec ASuffix ADeclarator AnEnumerator ALink ANext ATypeName) → PassingKeeps (param_step (part_Param (tree_Param y)))
-param_keeps (t.Named specs d) = record { goes = λ around s fit.
-    goes_then s _ _ (head_goes specs around s fit) (λ h u c.
-    goes_then u _ _ (d.1.form.goes h.attributes around u c.fit) (λ f v e. parameter_keeps (Some (declaring d.0).name) h f around v e.fit c.holds e.holds)) }
-param_keeps (t.Unnamed specs form) = record { goes = λ around s fit.
-    goes_then s _ _ (head_goes specs around s fit) (λ h u c.
-    goes_then u _ _ (form.1.goes h.attributes around u c.fit) (λ f v e. parameter_keeps None h f around v e.fit c.holds e.holds)) }
+param_keeps (t.Named specs d) = record {
+  goes = λ around s fit.
+      goes_then s _ _ (head_goes specs around s fit) (λ h u c.
+      goes_then u _ _ (d.1.form.goes h.attributes around u c.fit) (λ f v e. parameter_keeps (Some (declaring d.0).name) h f around v e.fit c.holds e.holds));
+}
+param_keeps (t.Unnamed specs form) = record {
+  goes = λ around s fit.
+      goes_then s _ _ (head_goes specs around s fit) (λ h u c.
+      goes_then u _ _ (form.1.goes h.attributes around u c.fit) (λ f v e. parameter_keeps None h f around v e.fit c.holds e.holds));
+}
 
 -- ---- type names and specifiers
 
 type_keeps : (y : TypeName-F AnAbstract AnAccess AnEnumSpec AnExpr AMember AParam AParams ASpec AStructSpec ASuffix ADeclarator AnEnumerator ALink ANext ATypeName) → NamingKeeps (type_step (part_TypeName (tree_TypeName y)))
-type_keeps y = record { goes = λ around s fit.
-    goes_then s _ _ (head_goes y.specs around s fit) (λ h u c.
-    goes_then u _ _ (y.declarator.1.goes h.attributes around u c.fit) (λ f v d. keeps v (type_of_name h f) d.fit (type_of_name_law h f c.holds d.holds))) }
+type_keeps y = record {
+  goes = λ around s fit.
+      goes_then s _ _ (head_goes y.specs around s fit) (λ h u c.
+      goes_then u _ _ (y.declarator.1.goes h.attributes around u c.fit) (λ f v d. keeps v (type_of_name h f) d.fit (type_of_name_law h f c.holds d.holds)));
+}
 
 spec_keeps : (y : Spec-F AnAbstract AnAccess AnEnumSpec AnExpr AMember AParam AParams ASpec AStructSpec ASuffix ADeclarator AnEnumerator ALink ANext ATypeName) → SpecifyingKeeps (spec_step (part_Spec (tree_Spec y)))
 spec_keeps (t.Word place w) = record { goes = λ stored around it s fit h. keeps s (worded it place w stored) fit (worded_law it place w stored h) }

@@ -120,4 +120,3 @@ specifiers_keep g (x ∷ xs) stored around it s fit h = goes_then s (g x.0 store
 pub members_keep : {T : Type 0} (g : T → Adding) (ms : List (Of AddingKeeps g)) (around : Around) (l : Layout) (s : Tables) → IsFit s → members_few l.members ≡ true → Goes LayoutAt s (members_from around l (map g (firsts ms)) s)
 members_keep g [] around l s fit h = stays s l fit h
 members_keep g (m ∷ ms) around l s fit h = goes_then s (g m.0 around l s) _ (m.1.goes around l s fit h) (λ all u c. members_keep g ms around all u c.fit c.holds)
-

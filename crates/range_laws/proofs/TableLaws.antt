@@ -54,9 +54,9 @@ kept_none p = record { objects = λ h. no h; functions = λ many h. no h }
 
 names_kept : (s t : Tables) → ((n : ℕ) → IsKept (slice_get s.externs n) (slice_get t.externs n)) → NamesWithin (names s) (names t)
 names_kept s t f = record {
-    globals = λ n h. ap is_object (slice_get-map extern_of t.externs n) ∙ (f n).objects (sym (ap is_object (slice_get-map extern_of s.externs n)) ∙ h);
-    functions = λ n many h. ap (is_called many) (slice_get-map extern_of t.externs n) ∙ (f n).functions many (sym (ap (is_called many) (slice_get-map extern_of s.externs n)) ∙ h);
-  }
+  globals = λ n h. ap is_object (slice_get-map extern_of t.externs n) ∙ (f n).objects (sym (ap is_object (slice_get-map extern_of s.externs n)) ∙ h);
+  functions = λ n many h. ap (is_called many) (slice_get-map extern_of t.externs n) ∙ (f n).functions many (sym (ap (is_called many) (slice_get-map extern_of s.externs n)) ∙ h);
+}
 
 kept_push : (xs : List Known) (k : Known) (n : ℕ) → IsKept (slice_get xs n) (slice_get (xs ++ k ∷ []) n)
 kept_push [] k n = kept_none (slice_get (k ∷ []) n)
@@ -106,10 +106,10 @@ last_local s l = let n = length_push s.locals l in omega (arith, n)
 
 named_came : (text : List ℕ) (t : CType) (s : Tables) → IsFit s → few t ≡ true → Came IsLocal s (length s.locals) (with_named text t s)
 named_came text t s fit f = record {
-    grows = record { externs = names_same (names s); locals = one_local s (record { name = text; ctype = t }) };
-    fit = record { meanings = fit.meanings; locals = all_push local_few s.locals (record { name = text; ctype = t }) fit.locals f; structs = fit.structs; externs = fit.externs };
-    holds = last_local s (record { name = text; ctype = t });
-  }
+  grows = record { externs = names_same (names s); locals = one_local s (record { name = text; ctype = t }) };
+  fit = record { meanings = fit.meanings; locals = all_push local_few s.locals (record { name = text; ctype = t }) fit.locals f; structs = fit.structs; externs = fit.externs };
+  holds = last_local s (record { name = text; ctype = t });
+}
 
 pub local_law : (scope : Scope) (name : Name) (t : CType) (initialised : Bool) (s : Tables) → IsFit s → few t ≡ true → Goes IsLocal s (declare_local scope name t initialised s)
 local_law scope name t initialised s fit f =
@@ -125,11 +125,13 @@ anything s t x h y = record { grows = h.grows; fit = h.fit; holds = tt }
 
 unnamed_by : (t : CType) (first : Place) (o : Option ℕ) (s : Tables) → IsFit s → few t ≡ true → Goes Anything s (declare_unnamed t first o s)
 unnamed_by t first (Some code) s fit f = stops
-unnamed_by t first None s fit f = record { it = record {
+unnamed_by t first None s fit f = record {
+  it = record {
     grows = record { externs = names_same (names s); locals = one_local s (record { name = []; ctype = t }) };
     fit = record { meanings = fit.meanings; locals = all_push local_few s.locals (record { name = []; ctype = t }) fit.locals f; structs = fit.structs; externs = fit.externs };
     holds = tt;
-  } }
+  };
+}
 
 parameter_by : (name : Name) (t : CType) (o : Option ℕ) (s : Tables) → IsFit s → few t ≡ true → Goes Anything s (declare_named name t o s)
 parameter_by name t (Some code) s fit f = stops
@@ -141,9 +143,9 @@ parameter_law scope None t first s fit f = unnamed_by t first (parameter_fault t
 
 completed_by : (n : ℕ) (t : CType) (s : Tables) (o : Option TLocal) → IsFit s → few t ≡ true → Leads s (complete_as n t s o)
 completed_by n t s (Some l) fit f = record {
-    grows = record { externs = names_same (names s); locals = let e = length-set s.locals n (blocks.completed t l) in omega (arith, e) };
-    fit = record { meanings = fit.meanings; locals = all_set local_few s.locals n (blocks.completed t l) fit.locals f; structs = fit.structs; externs = fit.externs };
-  }
+  grows = record { externs = names_same (names s); locals = let e = length-set s.locals n (blocks.completed t l) in omega (arith, e) };
+  fit = record { meanings = fit.meanings; locals = all_set local_few s.locals n (blocks.completed t l) fit.locals f; structs = fit.structs; externs = fit.externs };
+}
 completed_by n t s None fit f = record { grows = grows_same s; fit = fit }
 
 pub complete_local_law : (n : ℕ) (t : CType) (s : Tables) → IsFit s → few t ≡ true → Leads s (complete_local n t s)
@@ -151,16 +153,16 @@ complete_local_law n t s fit f = completed_by n t s (slice_get s.locals n) fit f
 
 pub close_block_law : (scope : Scope) (s : Tables) → IsFit s → Leads s (close_block scope s)
 close_block_law scope s fit = record {
-    grows = record { externs = names_same (names s); locals = le_refl (length s.locals) };
-    fit = record { meanings = fit.meanings; locals = fit.locals; structs = fit.structs; externs = fit.externs };
-  }
+  grows = record { externs = names_same (names s); locals = le_refl (length s.locals) };
+  fit = record { meanings = fit.meanings; locals = fit.locals; structs = fit.structs; externs = fit.externs };
+}
 
 -- a parameter list that began at s
 pub close_parameters_law : (outer : Scope) (s t : Tables) → Grows s t → IsFit t → Leads s (close_parameters (open_parameters outer s) t)
 close_parameters_law outer s t g fit = record {
-    grows = record { externs = g.externs; locals = let e = length-take (length s.locals) t.locals in omega (arith, e, g.locals) };
-    fit = record { meanings = fit.meanings; locals = all_take local_few (length s.locals) t.locals fit.locals; structs = fit.structs; externs = fit.externs };
-  }
+  grows = record { externs = g.externs; locals = let e = length-take (length s.locals) t.locals in omega (arith, e, g.locals) };
+  fit = record { meanings = fit.meanings; locals = all_take local_few (length s.locals) t.locals fit.locals; structs = fit.structs; externs = fit.externs };
+}
 
 -- ---- tags and structs
 
@@ -176,15 +178,15 @@ struct_few i = members_few i.members
 
 struct_leads : (i : StructInfo) (s : Tables) → IsFit s → members_few i.members ≡ true → Leads s (with_struct i s)
 struct_leads i s fit f = record {
-    grows = grows_beside s (with_struct i s) refl refl;
-    fit = record { meanings = fit.meanings; locals = fit.locals; structs = all_push struct_few s.structs i fit.structs f; externs = fit.externs };
-  }
+  grows = grows_beside s (with_struct i s) refl refl;
+  fit = record { meanings = fit.meanings; locals = fit.locals; structs = all_push struct_few s.structs i fit.structs f; externs = fit.externs };
+}
 
 set_leads : (n : ℕ) (i : StructInfo) (s : Tables) → IsFit s → members_few i.members ≡ true → Leads s (record s { structs = slice_set s.structs n i })
 set_leads n i s fit f = record {
-    grows = grows_beside s (record s { structs = slice_set s.structs n i }) refl refl;
-    fit = record { meanings = fit.meanings; locals = fit.locals; structs = all_set struct_few s.structs n i fit.structs f; externs = fit.externs };
-  }
+  grows = grows_beside s (record s { structs = slice_set s.structs n i }) refl refl;
+  fit = record { meanings = fit.meanings; locals = fit.locals; structs = all_set struct_few s.structs n i fit.structs f; externs = fit.externs };
+}
 
 leads_trans : (s t u : Tables) → Leads s t → Leads t u → Leads s u
 leads_trans s t u f g = record { grows = grows_trans s t u f.grows g.grows; fit = g.fit }
@@ -261,9 +263,9 @@ added_law name t l f h =
 
 pub meaning_leads : (text : List ℕ) (m : Meaning) (s : Tables) → IsFit s → meaning_few m ≡ true → Leads s (with_meaning text m s)
 meaning_leads text m s fit f = record {
-    grows = grows_beside s (with_meaning text m s) refl refl;
-    fit = record { meanings = all_push meaning_few s.meanings m fit.meanings f; locals = fit.locals; structs = fit.structs; externs = fit.externs };
-  }
+  grows = grows_beside s (with_meaning text m s) refl refl;
+  fit = record { meanings = all_push meaning_few s.meanings m fit.meanings f; locals = fit.locals; structs = fit.structs; externs = fit.externs };
+}
 
 pub typedef_law : (name : Name) (t : CType) (s : Tables) → IsFit s → few t ≡ true → Goes Anything s (declare_typedef name t s)
 typedef_law name t s fit f =
@@ -285,18 +287,18 @@ known_few k = few k.ctype
 -- an extern in the place of another that is like it
 known_leads : (n : ℕ) (k y : Known) (s : Tables) → IsFit s → slice_get s.externs n ≡ Some k → IsKept (Some k) (Some y) → few y.ctype ≡ true → Leads s (record s { externs = slice_set s.externs n y })
 known_leads n k y s fit is like f = record {
-    grows = record { externs = names_kept s (record s { externs = slice_set s.externs n y }) (kept_set s.externs n k y is like); locals = le_refl (length s.locals) };
-    fit = record { meanings = fit.meanings; locals = fit.locals; structs = fit.structs; externs = all_set known_few s.externs n y fit.externs f };
-  }
+  grows = record { externs = names_kept s (record s { externs = slice_set s.externs n y }) (kept_set s.externs n k y is like); locals = le_refl (length s.locals) };
+  fit = record { meanings = fit.meanings; locals = fit.locals; structs = fit.structs; externs = all_set known_few s.externs n y fit.externs f };
+}
 
 type_few_at : (n : ℕ) (k : Known) (s : Tables) → IsFit s → slice_get s.externs n ≡ Some k → few k.ctype ≡ true
 type_few_at n k s fit is = subst (λ o. or_pass known_few o ≡ true) is (all_get known_few s.externs n fit.externs)
 
 new_leads : (k : Known) (s : Tables) → IsFit s → few k.ctype ≡ true → Leads s (with_known k s)
 new_leads k s fit f = record {
-    grows = record { externs = names_kept s (with_known k s) (kept_push s.externs k); locals = le_refl (length s.locals) };
-    fit = record { meanings = all_push meaning_few s.meanings (Extern (length s.externs)) fit.meanings refl; locals = fit.locals; structs = fit.structs; externs = all_push known_few s.externs k fit.externs f };
-  }
+  grows = record { externs = names_kept s (with_known k s) (kept_push s.externs k); locals = le_refl (length s.locals) };
+  fit = record { meanings = all_push meaning_few s.meanings (Extern (length s.externs)) fit.meanings refl; locals = fit.locals; structs = fit.structs; externs = all_push known_few s.externs k fit.externs f };
+}
 
 -- ---- a function or a global that is declared: what holds of its number, where that holds of a new one and of an old one
 

@@ -68,9 +68,9 @@ module _ (a : Ranged) where
 
   pub made_of : (x : Layer) (k : ExprKind) (t : CType) (p : Place) → roll-ExprKind x ≡ k → ((e : Expr) → kind_fits a e x ≡ expr_in_range a e) → layer_in x ≡ true → few t ≡ true → IsMade a (node k t p)
   made_of x k t p is same h typed = record {
-      value = record { numbers = inside; typed = typed };
-      tree = record { numbers = ap (kind_fits a (node k t p)) (out_is x k is) ∙ (same (node k t p) ∙ inside); typed = typed };
-    }
+    value = record { numbers = inside; typed = typed };
+    tree = record { numbers = ap (kind_fits a (node k t p)) (out_is x k is) ∙ (same (node k t p) ∙ inside); typed = typed };
+  }
     where
       inside : expr_in_range a (node k t p) ≡ true
       inside = fold-roll-Expr Bool Bool (kind_step a) expr_step (record { kind = k; ctype = t; place = p }) ∙ (ap kind_in (sym is) ∙ (fold-roll-ExprKind Bool Bool (kind_step a) expr_step x ∙ h))

@@ -306,50 +306,70 @@ stmt_keeps (t.Expr e) = record { goes = λ gives w s fit. done_keeps e w.around 
 stmt_keeps (t.Return place e) = record { goes = λ gives w s fit. returned_keeps place e gives w.around s fit }
 stmt_keeps (t.Break place) = record { goes = λ gives w s fit. keeps s _ fit (jumped_law (range w.around.in_entry s) (w.in_loop || w.in_switch) stmt.Break place (made (range w.around.in_entry s) layer.Break stmt.Break rolls-Break refl)) }
 stmt_keeps (t.Continue place) = record { goes = λ gives w s fit. keeps s _ fit (jumped_law (range w.around.in_entry s) w.in_loop stmt.Continue place (made (range w.around.in_entry s) layer.Continue stmt.Continue rolls-Continue refl)) }
-stmt_keeps (t.If place test on None) = record { goes = λ gives w s fit.
-    goes_then s (tested test w.around s) _ (tested_keeps test w.around s fit) (λ e u c.
-    goes_then u (typed on.0 gives w u) _ (on.1.goes gives w u c.fit) (λ x v d.
-    stays v (stmt.If e x None) d.fit (if_made (range w.around.in_entry v) e x None (later_expr w.around.in_entry u v e d.grows c.holds) d.holds refl))) }
-stmt_keeps (t.If place test on (Some off)) = record { goes = λ gives w s fit.
-    goes_then s (tested test w.around s) _ (tested_keeps test w.around s fit) (λ e u c.
-    goes_then u (typed on.0 gives w u) _ (on.1.goes gives w u c.fit) (λ x v d.
-    goes_then v (else_typed (Some (typed off.0)) gives w v) _ (else_keeps off gives w v d.fit) (λ y z f.
-    stays z (stmt.If e x y) f.fit (if_made (range w.around.in_entry z) e x y (later_expr w.around.in_entry u z e (grows_trans u v z d.grows f.grows) c.holds) (later_stmt w.around.in_entry v z x f.grows d.holds) f.holds)))) }
-stmt_keeps (t.While place test b) = record { goes = λ gives w s fit.
-    goes_then s (tested test w.around s) _ (tested_keeps test w.around s fit) (λ e u c.
-    goes_then u (typed b.0 gives (looping w) u) _ (b.1.goes gives (looping w) u c.fit) (λ x v d.
-    stays v (stmt.While e x) d.fit (made (range w.around.in_entry v) (layer.While e x) (stmt.While e x) (rolls-While e x) (both (later_expr w.around.in_entry u v e d.grows c.holds) d.holds)))) }
-stmt_keeps (t.DoWhile place b test) = record { goes = λ gives w s fit.
-    goes_then s (typed b.0 gives (looping w) s) _ (b.1.goes gives (looping w) s fit) (λ x u c.
-    goes_then u (tested test w.around u) _ (tested_keeps test w.around u c.fit) (λ e v d.
-    stays v (stmt.DoWhile x e) d.fit (made (range w.around.in_entry v) (layer.DoWhile x e) (stmt.DoWhile x e) (rolls-DoWhile x e) (both (later_stmt w.around.in_entry u v x d.grows c.holds) d.holds)))) }
-stmt_keeps (t.For place head b) = record { goes = λ gives w s fit.
-    goes_then s (headed head (opened w s).around s) _ (head_goes head w s fit) (λ h u c.
-    goes_then u (typed b.0 gives (looping (opened w s)) u) _ (for_goes b gives w s u c.fit) (λ x v d.
-    ends w s v (for_of h x) d.fit (made (range w.around.in_entry v) (layer.For h.first h.test h.next x) (for_of h x) (rolls-For h.first h.test h.next x)
-    (both (mapped (range w.around.in_entry v) _ h.first ∙ later_stmts w.around.in_entry u v h.first d.grows c.holds.begin)
-    (both (later_or w.around.in_entry u v h.test d.grows c.holds.test) (both (later_or w.around.in_entry u v h.next d.grows c.holds.turn) d.holds)))))) }
-stmt_keeps (t.Switch place e ps) = record { goes = λ gives w s fit.
-    goes_then s (switched e w.around s) _ (switched_keeps e w.around s fit) (λ x u c.
-    goes_then u _ _ (switch_goes ps gives w u c.fit) (λ all v d.
-    ends w u v (switch_of x all) d.fit (made (range w.around.in_entry v) (layer.Switch x all.parts) (switch_of x all) (rolls-Switch x all.parts) (both (later_expr w.around.in_entry u v x d.grows c.holds) (mapped (range w.around.in_entry v) _ all.parts ∙ d.holds.parts))))) }
+stmt_keeps (t.If place test on None) = record {
+  goes = λ gives w s fit.
+      goes_then s (tested test w.around s) _ (tested_keeps test w.around s fit) (λ e u c.
+      goes_then u (typed on.0 gives w u) _ (on.1.goes gives w u c.fit) (λ x v d.
+      stays v (stmt.If e x None) d.fit (if_made (range w.around.in_entry v) e x None (later_expr w.around.in_entry u v e d.grows c.holds) d.holds refl)));
+}
+stmt_keeps (t.If place test on (Some off)) = record {
+  goes = λ gives w s fit.
+      goes_then s (tested test w.around s) _ (tested_keeps test w.around s fit) (λ e u c.
+      goes_then u (typed on.0 gives w u) _ (on.1.goes gives w u c.fit) (λ x v d.
+      goes_then v (else_typed (Some (typed off.0)) gives w v) _ (else_keeps off gives w v d.fit) (λ y z f.
+      stays z (stmt.If e x y) f.fit (if_made (range w.around.in_entry z) e x y (later_expr w.around.in_entry u z e (grows_trans u v z d.grows f.grows) c.holds) (later_stmt w.around.in_entry v z x f.grows d.holds) f.holds))));
+}
+stmt_keeps (t.While place test b) = record {
+  goes = λ gives w s fit.
+      goes_then s (tested test w.around s) _ (tested_keeps test w.around s fit) (λ e u c.
+      goes_then u (typed b.0 gives (looping w) u) _ (b.1.goes gives (looping w) u c.fit) (λ x v d.
+      stays v (stmt.While e x) d.fit (made (range w.around.in_entry v) (layer.While e x) (stmt.While e x) (rolls-While e x) (both (later_expr w.around.in_entry u v e d.grows c.holds) d.holds))));
+}
+stmt_keeps (t.DoWhile place b test) = record {
+  goes = λ gives w s fit.
+      goes_then s (typed b.0 gives (looping w) s) _ (b.1.goes gives (looping w) s fit) (λ x u c.
+      goes_then u (tested test w.around u) _ (tested_keeps test w.around u c.fit) (λ e v d.
+      stays v (stmt.DoWhile x e) d.fit (made (range w.around.in_entry v) (layer.DoWhile x e) (stmt.DoWhile x e) (rolls-DoWhile x e) (both (later_stmt w.around.in_entry u v x d.grows c.holds) d.holds))));
+}
+stmt_keeps (t.For place head b) = record {
+  goes = λ gives w s fit.
+      goes_then s (headed head (opened w s).around s) _ (head_goes head w s fit) (λ h u c.
+      goes_then u (typed b.0 gives (looping (opened w s)) u) _ (for_goes b gives w s u c.fit) (λ x v d.
+      ends w s v (for_of h x) d.fit (made (range w.around.in_entry v) (layer.For h.first h.test h.next x) (for_of h x) (rolls-For h.first h.test h.next x)
+      (both (mapped (range w.around.in_entry v) _ h.first ∙ later_stmts w.around.in_entry u v h.first d.grows c.holds.begin)
+      (both (later_or w.around.in_entry u v h.test d.grows c.holds.test) (both (later_or w.around.in_entry u v h.next d.grows c.holds.turn) d.holds))))));
+}
+stmt_keeps (t.Switch place e ps) = record {
+  goes = λ gives w s fit.
+      goes_then s (switched e w.around s) _ (switched_keeps e w.around s fit) (λ x u c.
+      goes_then u _ _ (switch_goes ps gives w u c.fit) (λ all v d.
+      ends w u v (switch_of x all) d.fit (made (range w.around.in_entry v) (layer.Switch x all.parts) (switch_of x all) (rolls-Switch x all.parts) (both (later_expr w.around.in_entry u v x d.grows c.holds) (mapped (range w.around.in_entry v) _ all.parts ∙ d.holds.parts)))));
+}
 
 item_keeps : (y : Item-F AnItem APart AStmt ABlock) → AddingKeeps (item_step (part_Item (tree_Item y)))
-item_keeps (t.Item::Decl d) = record { goes = λ gives w all s fit h.
-    goes_then s (declared d w.around s) _ (declared_keeps d w.around s fit) (λ more u c.
-    stays u (all ++ more) c.fit (all_append (stmt_in_range (range w.around.in_entry u)) all more (later_stmts w.around.in_entry s u all c.grows h) c.holds)) }
-item_keeps (t.Item::Stmt x) = record { goes = λ gives w all s fit h.
-    goes_then s (typed x.0 gives w s) _ (x.1.goes gives w s fit) (λ y u c.
-    stays u (all ++ y ∷ []) c.fit (all_push (stmt_in_range (range w.around.in_entry u)) all y (later_stmts w.around.in_entry s u all c.grows h) c.holds)) }
+item_keeps (t.Item::Decl d) = record {
+  goes = λ gives w all s fit h.
+      goes_then s (declared d w.around s) _ (declared_keeps d w.around s fit) (λ more u c.
+      stays u (all ++ more) c.fit (all_append (stmt_in_range (range w.around.in_entry u)) all more (later_stmts w.around.in_entry s u all c.grows h) c.holds));
+}
+item_keeps (t.Item::Stmt x) = record {
+  goes = λ gives w all s fit h.
+      goes_then s (typed x.0 gives w s) _ (x.1.goes gives w s fit) (λ y u c.
+      stays u (all ++ y ∷ []) c.fit (all_push (stmt_in_range (range w.around.in_entry u)) all y (later_stmts w.around.in_entry s u all c.grows h) c.holds));
+}
 
 part_keeps : (y : Part-F AnItem APart AStmt ABlock) → ChoosingKeeps (part_step (part_Part (tree_Part y)))
 part_keeps (t.Label l) = record { goes = λ gives w all s fit h. labelled_keeps l w.around all s fit h }
-part_keeps (t.Part::Decl d) = record { goes = λ gives w all s fit h.
-    goes_then s (declared d w.around s) _ (declared_keeps d w.around s fit) (λ more u c.
-    stays u (with_stmts more all) c.fit (record { parts = all_append (part_in (range w.around.in_entry u)) all.parts (map part.Stmt more) (later_arms w.around.in_entry s u all c.grows h).parts (parts_of (range w.around.in_entry u) more c.holds) })) }
-part_keeps (t.Part::Stmt x) = record { goes = λ gives w all s fit h.
-    goes_then s (typed x.0 gives w s) _ (x.1.goes gives w s fit) (λ y u c.
-    stays u (with_stmt y all) c.fit (record { parts = all_push (part_in (range w.around.in_entry u)) all.parts (part.Stmt y) (later_arms w.around.in_entry s u all c.grows h).parts (part_made (range w.around.in_entry u) (layer.Stmt y) (part.Stmt y) (rolls-Stmt y) c.holds) })) }
+part_keeps (t.Part::Decl d) = record {
+  goes = λ gives w all s fit h.
+      goes_then s (declared d w.around s) _ (declared_keeps d w.around s fit) (λ more u c.
+      stays u (with_stmts more all) c.fit (record { parts = all_append (part_in (range w.around.in_entry u)) all.parts (map part.Stmt more) (later_arms w.around.in_entry s u all c.grows h).parts (parts_of (range w.around.in_entry u) more c.holds) }));
+}
+part_keeps (t.Part::Stmt x) = record {
+  goes = λ gives w all s fit h.
+      goes_then s (typed x.0 gives w s) _ (x.1.goes gives w s fit) (λ y u c.
+      stays u (with_stmt y all) c.fit (record { parts = all_push (part_in (range w.around.in_entry u)) all.parts (part.Stmt y) (later_arms w.around.in_entry s u all c.grows h).parts (part_made (range w.around.in_entry u) (layer.Stmt y) (part.Stmt y) (rolls-Stmt y) c.holds) }));
+}
 
 block_keeps : (y : Block-F AnItem APart AStmt ABlock) → ListingKeeps (block_step (part_Block (tree_Block y)))
 block_keeps y = record { goes = λ gives w s fit. items_keep y.items [] gives w s fit refl }
