@@ -1,0 +1,4 @@
+pub mod OperandLaws
+pub mod FormedLaws
+pub mod Walk
+pub mod Layers

@@ -1,0 +1,13 @@
+pub mod Both
+pub mod Wider
+pub mod Moves
+pub mod FewLaws
+pub mod TreeLaws
+pub mod RowLaws
+pub mod CallLaws
+pub mod RefreshLaws
+pub mod LookupLaws
+pub mod SameLaws
+pub mod TableLaws
+pub mod DeriveLaws
+pub mod HeaderLaws

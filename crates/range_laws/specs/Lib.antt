@@ -1,0 +1,4 @@
+pub mod Ranges
+pub mod Few
+pub mod Fits
+pub mod Steps

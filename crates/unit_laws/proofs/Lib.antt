@@ -1,0 +1,4 @@
+pub mod InitLaws
+pub mod DeclLaws
+pub mod BodyLaws
+pub mod FunctionLaws
