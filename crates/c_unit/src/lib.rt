@@ -1,7 +1,0 @@
-//! The typed tree of a unit, or its first fault in the order of the text.
-#![tactic(auto)]
-
-mod functions;
-mod units;
-
-pub use units::check;
