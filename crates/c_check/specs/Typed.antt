@@ -389,6 +389,13 @@ links around first left ls = links_from around first left (map linked_of ls)
 abbrev pub commas : Around → Place → Expr → List Next → Step Operand
 commas around first left cs = commas_from around first left (map following_of cs)
 
+-- the same behind an operand whose value is taken first
+abbrev pub links_after : Around → Operand → List Link → Step Operand
+links_after around o ls s = value_of o >>= (λ x. links around o.first x ls s)
+
+abbrev pub commas_after : Around → Operand → List Next → Step Operand
+commas_after around o cs s = value_of o >>= (λ x. commas around o.first x cs s)
+
 abbrev pub accesses : Around → Operand → List Access → Step Operand
 accesses around left fs = accesses_from around left (map reach_of fs)
 

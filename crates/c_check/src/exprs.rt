@@ -65,9 +65,7 @@ pub fn expr(
         }
         Tree::Binary(first, more) => {
             let o = expr(alloc, first.get(), tables, around)?;
-            let first = o.first;
-            let left = o.value(alloc)?;
-            links(alloc, more.as_slice(), tables, around, Arg { value: left, first })
+            links(alloc, more.as_slice(), tables, around, o)
         }
         Tree::Choice(place, c, a, b) => {
             let c = expr(alloc, c.get(), tables, around)?;
@@ -86,9 +84,7 @@ pub fn expr(
         }
         Tree::Comma(first, more) => {
             let o = expr(alloc, first.get(), tables, around)?;
-            let first = o.first;
-            let left = o.value(alloc)?;
-            commas(alloc, more.as_slice(), tables, around, Arg { value: left, first })
+            commas(alloc, more.as_slice(), tables, around, o)
         }
     }
 }
@@ -113,12 +109,12 @@ fn links(
     more: &[Link],
     tables: &mut Tables,
     around: Around,
-    start: Arg,
+    start: Operand,
 ) -> Result<Operand, TypeFault>
-    ensures { Leaves result tables.new (spec.links around start.first start.value more.now tables.old) }
+    ensures { Leaves result tables.new (spec.links_after around start more.now tables.old) }
 {
-    let Arg { value, first } = start;
-    let mut left = value;
+    let first = start.first;
+    let mut left = start.value(alloc)?;
     for link in more {
         let right = expr(alloc, &link.operand, tables, around)?;
         left = joined(alloc, link.op, link.place, left, right)?;
@@ -134,12 +130,12 @@ fn commas(
     more: &[Next],
     tables: &mut Tables,
     around: Around,
-    start: Arg,
+    start: Operand,
 ) -> Result<Operand, TypeFault>
-    ensures { Leaves result tables.new (spec.commas around start.first start.value more.now tables.old) }
+    ensures { Leaves result tables.new (spec.commas_after around start more.now tables.old) }
 {
-    let Arg { value, first } = start;
-    let mut left = value;
+    let first = start.first;
+    let mut left = start.value(alloc)?;
     for next in more {
         let right = expr(alloc, &next.value, tables, around)?;
         left = followed(alloc, next.place, left, right)?;

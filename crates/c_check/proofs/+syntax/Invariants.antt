@@ -5,10 +5,10 @@ use Rattle.c_check.proofs.+syntax.Given as goal
 
 -- what is left to read answers as the whole
 abbrev pub invariant-exprs::links-loop-link : goal.invariant-exprs::links-loop-link
-invariant-exprs::links-loop-link l = links l.around l.fn.start.first l.fn.start.value l.more l.fn.tables ≡ links l.around l.fn.start.first l.left (drop l.link-index l.more) l.tables
+invariant-exprs::links-loop-link l = links l.around l.fn.start.first l.initial.left l.more l.fn.tables ≡ links l.around l.fn.start.first l.left (drop l.link-index l.more) l.tables
 
 abbrev pub invariant-exprs::commas-loop-next : goal.invariant-exprs::commas-loop-next
-invariant-exprs::commas-loop-next l = commas l.around l.fn.start.first l.fn.start.value l.more l.fn.tables ≡ commas l.around l.fn.start.first l.left (drop l.next-index l.more) l.tables
+invariant-exprs::commas-loop-next l = commas l.around l.fn.start.first l.initial.left l.more l.fn.tables ≡ commas l.around l.fn.start.first l.left (drop l.next-index l.more) l.tables
 
 abbrev pub invariant-exprs::accesses-loop-access : goal.invariant-exprs::accesses-loop-access
 invariant-exprs::accesses-loop-access l = accesses l.around l.fn.first l.more l.fn.tables ≡ accesses l.around l.left (drop l.access-index l.more) l.tables
