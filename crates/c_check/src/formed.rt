@@ -91,12 +91,7 @@ pub fn attributed(
 
 /// The type of a parameter, a member or a type name. The faults, of its declarator and then of its attributes, stand at
 /// `place`.
-fn inner_type(
-    alloc: Global,
-    formed: &Formed,
-    base: CType,
-    place: Place,
-) -> Result<CType, TypeFault>
+fn inner_type(alloc: Global, formed: &Formed, base: CType, place: Place) -> Result<CType, TypeFault>
     ensures { Gives result (spec.inner_type base formed.now place) }
 {
     let t = derived(alloc, formed.derivations.as_slice(), base, place)?;

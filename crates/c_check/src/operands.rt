@@ -10,8 +10,8 @@ use c_ast::{AssignOp, BinOp, Name, NumberType, StepOp, UnOp};
 use c_rows::{
     Arg, Intrinsic, TypeFault, added, address, array_length, assigned, assigned_by, at, binary,
     both_or_either, called, cast, character, chosen, dereferenced, element, equated, in_order,
-    integer_constant, intrinsic_called, member, negated, number, ordered, shifted, size_of, stepped,
-    subtracted, unary, valued,
+    integer_constant, intrinsic_called, member, negated, number, ordered, shifted, size_of,
+    stepped, subtracted, unary, valued,
 };
 use c_scope::{Tables, intrinsic_named, member_of, named};
 use c_tree::Expr;
@@ -98,12 +98,7 @@ fn binary_row(
 }
 
 /// An operator before its operand.
-fn unary_row(
-    alloc: Global,
-    op: UnOp,
-    place: Place,
-    o: Operand,
-) -> Result<Shared<Expr>, TypeFault>
+fn unary_row(alloc: Global, op: UnOp, place: Place, o: Operand) -> Result<Shared<Expr>, TypeFault>
     ensures { Gives result (spec.unary_row op place o) }
 {
     match op {
@@ -186,7 +181,12 @@ pub fn in_parentheses(first: Place, o: Operand) -> Operand
 }
 
 /// A number.
-pub fn number_operand(alloc: Global, place: Place, n: u32, ty: NumberType) -> Result<Operand, NoMemory>
+pub fn number_operand(
+    alloc: Global,
+    place: Place,
+    n: u32,
+    ty: NumberType,
+) -> Result<Operand, NoMemory>
     ensures { IfOk result (λ o. o ≡ spec.operand place (numbers.number place n ty.unsigned ty.long)) }
 {
     Ok(Operand::new(place, number(alloc, place, n, ty.unsigned, ty.long)?))

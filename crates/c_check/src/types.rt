@@ -7,8 +7,8 @@ ghost use Rattle.c_check.specs.Typed as spec;
 use crate::around::Around;
 use crate::exprs::expr;
 use crate::formed::{
-    Formed, grouped_declarator, inside, named_parameter, plain_declarator, star_attributes, type_of_name,
-    unnamed_parameter, with_member,
+    Formed, grouped_declarator, inside, named_parameter, plain_declarator, star_attributes,
+    type_of_name, unnamed_parameter, with_member,
 };
 use crate::operands::{constant_operand, length_operand};
 use crate::specified::{Head, Specified};
@@ -239,7 +239,13 @@ pub fn form(
         Abstract::Plain(stars, list) => {
             let attributes = star_attributes(stars.as_slice(), attributes)?;
             let behind = suffixes(alloc, list.as_slice(), tables, around)?;
-            Ok(plain_declarator(alloc, stars.as_slice(), behind, List::new(alloc), attributes)?)
+            Ok(plain_declarator(
+                alloc,
+                stars.as_slice(),
+                behind,
+                List::new(alloc),
+                attributes,
+            )?)
         }
         Abstract::Group(stars, _, inner, list) => {
             let attributes = star_attributes(stars.as_slice(), attributes)?;
