@@ -63,6 +63,9 @@ fn clash_of(alloc: Global, list: &[Where]) -> Result<Option<(u32, u32)>, NoMemor
 /// Whether the places that the function is given don't clash.
 fn is_allocated(alloc: Global) -> Result<bool, NoMemory> {
     let f = function(alloc)?;
+    if f.vars > 904 {
+        return Ok(false);
+    }
     let lives = live_sets(alloc, &f)?;
     let places = allocate(alloc, &f, &lives)?;
     Ok(places.list.len() == 3 && clash(&f, &lives, &places) == None)
