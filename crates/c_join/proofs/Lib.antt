@@ -1,0 +1,4 @@
+pub mod CauseLaws
+pub mod JoinLaws
+pub mod NameLaws
+pub mod SetLaws
