@@ -10,7 +10,7 @@ use Rattle.c_types.specs.Sizes.{fits}
 use Rattle.c_tree.specs.declared.program.Extern.{Extern}
 use Rattle.c_tree.specs.declared.program.TFunction.{TFunction}
 use Rattle.c_tree.specs.declared.program.TGlobal.{TGlobal}
-use Rattle.c_tree.specs.Conditions.{IsUnit, Program, TUnit}
+use Rattle.c_tree.specs.Conditions.{IsProgram, IsUnit, Program, TUnit}
 use Rattle.c_tree.specs.Globals as g
 use Rattle.c_tree.specs.Globals.{globals_bytes}
 use Rattle.c_tree.specs.Limits.{capped}
@@ -18,10 +18,12 @@ use Rattle.c_tree.specs.Nodes.{function_nodes, program_nodes}
 use Rattle.join_laws.specs.declared.fault.JoinFault.{JoinFault}
 use Rattle.join_laws.specs.declared.fault.JoinFault.TheVariants as faults
 use Rattle.join_laws.specs.Keys.{Key, function_keys, global_keys, key, key_of, number_of, numbers_of, per_unit, place_of_key, same_key, unit_function_keys, unit_global_keys}
-use Rattle.join_laws.specs.Joined.{Seen, all_functions, all_globals, at_most, defined_twice, disputed, entry_names, joined, name_in, named_or, program, seen_in, undefined_from, undefined_use, unit_functions, unit_globals, units_nodes}
+use Rattle.join_laws.specs.Joined.{Numbered, Seen, all_functions, all_globals, at_most, defined_twice, disputed, entry_names, joined, name_in, named_or, program, seen_in, undefined_from, undefined_use, unit_functions, unit_globals, units_nodes}
 use Rattle.join_laws.specs.Renumber.{all_small, is_small}
 use Rattle.join_laws.specs.Uses.{Named}
+use Rattle.join_laws.proofs.ProgramLaws.{program_holds}
 use Rattle.join_laws.proofs.SeenLaws.{seen_functions, seen_globals}
+use Rattle.c_join.specs.Causes.{Joins, NoneUndefined, made}
 
 -- what is answered where these tests find no fault
 abbrev counted : List TUnit → Result Program JoinFault
@@ -33,28 +35,28 @@ after62 us = named_or 60 (name_in (undefined_use us)) (counted us)
 abbrev after61 : List TUnit → Result Program JoinFault
 after61 us = named_or 62 (disputed [] us) (after62 us)
 
+abbrev pub with_entries : List TFunction → List TGlobal → List (List ℕ) → Program
+with_entries fs gs es = record { functions = fs; globals = gs; entries = es }
+
 abbrev pub Fails : ℕ → Option (List ℕ) → JoinFault → Type 0
 Fails code name e = (e ≡ faults.NoMemory) ⊎ ((n : List ℕ) × (name ≡ Some n) × (e ≡ faults.Named code n))
-
-abbrev pub Answer : List TUnit → Result Program JoinFault → Type 0
-Answer us r = (r ≡ Err faults.NoMemory) ⊎ (r ≡ joined us)
 
 pub no_name_none : (a : Option Named) → name_in a ≡ None → a ≡ None
 no_name_none None h = refl
 no_name_none (Some x) h = cc
 
 module _ (us : List TUnit) (e : JoinFault) where
-  pub fault61 : Fails 61 (name_in (defined_twice us)) e → Answer us (Err e)
+  pub fault61 : Fails 61 (name_in (defined_twice us)) e → Joins us (Err e)
   fault61 (inl h) = inl (ap Err h)
   fault61 (inr q) = inr (ap Err q.2 ∙ sym (ap (λ o. named_or 61 o (after61 us)) q.1))
 
   module _ (h61 : name_in (defined_twice us) ≡ None) where
-    pub fault62 : Fails 62 (disputed [] us) e → Answer us (Err e)
+    pub fault62 : Fails 62 (disputed [] us) e → Joins us (Err e)
     fault62 (inl h) = inl (ap Err h)
     fault62 (inr q) = inr (ap Err q.2 ∙ sym (ap (λ o. named_or 61 o (after61 us)) h61 ∙ ap (λ o. named_or 62 o (after62 us)) q.1))
 
     module _ (h62 : disputed [] us ≡ None) where
-      pub fault60 : Fails 60 (name_in (undefined_use us)) e → Answer us (Err e)
+      pub fault60 : Fails 60 (name_in (undefined_use us)) e → Joins us (Err e)
       fault60 (inl h) = inl (ap Err h)
       fault60 (inr q) = inr (ap Err q.2 ∙ sym (ap (λ o. named_or 61 o (after61 us)) h61 ∙ (ap (λ o. named_or 62 o (after62 us)) h62 ∙ ap (λ o. named_or 60 o (counted us)) q.1)))
 
@@ -76,23 +78,40 @@ module _ (us : List TUnit) (h61 : name_in (defined_twice us) ≡ None) (h62 : di
   named_pass : joined us ≡ at_most 51 16000 (units_nodes us) (at_most 52 49152 (globals_bytes (all_globals us)) (at_most 54 512 (length (entry_names (all_functions us))) (Ok (program us))))
   named_pass = ap (λ o. named_or 61 o (after61 us)) h61 ∙ (ap (λ o. named_or 62 o (after62 us)) h62 ∙ ap (λ o. named_or 60 o (counted us)) h60)
 
-  pub fault51 : (found : ℕ) (e : JoinFault) → found ≡ capped (units_nodes us) → 16000 < found → e ≡ faults.Count 51 found → Answer us (Err e)
+  pub fault51 : (found : ℕ) (e : JoinFault) → found ≡ capped (units_nodes us) → 16000 < found → e ≡ faults.Count 51 found → Joins us (Err e)
   fault51 found e is more f = inr (ap Err (f ∙ ap (λ n. faults.Count 51 n) is) ∙ sym (named_pass ∙ over 51 16000 (units_nodes us) _ (omega (arith, is, more))))
 
   module _ (nodes : units_nodes us ≤ 16000) where
-    pub fault52 : (found : ℕ) (e : JoinFault) → found ≡ globals_bytes (all_globals us) → found ≤ 18446744073709551615 → 49152 < found → e ≡ faults.Count 52 found → Answer us (Err e)
+    pub fault52 : (found : ℕ) (e : JoinFault) → found ≡ globals_bytes (all_globals us) → found ≤ 18446744073709551615 → 49152 < found → e ≡ faults.Count 52 found → Joins us (Err e)
     fault52 found e is small more f =
         let cap : found ≡ capped (globals_bytes (all_globals us)) = omega (arith, is, small) in
         inr (ap Err (f ∙ ap (λ n. faults.Count 52 n) cap) ∙ sym (named_pass ∙ (under 51 16000 (units_nodes us) _ nodes ∙ over 52 49152 (globals_bytes (all_globals us)) _ (omega (arith, is, more)))))
 
-    module _ (bytes : globals_bytes (all_globals us) ≤ 49152) where
-      pub fault54 : (found : ℕ) (e : JoinFault) → found ≡ length (entry_names (all_functions us)) → found ≤ 18446744073709551615 → 512 < found → e ≡ faults.Count 54 found → Answer us (Err e)
-      fault54 found e is small more f =
-          let cap : found ≡ capped (length (entry_names (all_functions us))) = omega (arith, is, small) in
-          inr (ap Err (f ∙ ap (λ n. faults.Count 54 n) cap) ∙ sym (named_pass ∙ (under 51 16000 (units_nodes us) _ nodes ∙ (under 52 49152 (globals_bytes (all_globals us)) _ bytes ∙ over 54 512 (length (entry_names (all_functions us))) _ (omega (arith, is, more))))))
+    tail_is : globals_bytes (all_globals us) ≤ 49152 → joined us ≡ at_most 54 512 (length (entry_names (all_functions us))) (Ok (program us))
+    tail_is bytes = named_pass ∙ (under 51 16000 (units_nodes us) _ nodes ∙ under 52 49152 (globals_bytes (all_globals us)) _ bytes)
 
-      pub whole : length (entry_names (all_functions us)) ≤ 512 → joined us ≡ Ok (program us)
-      whole entries = named_pass ∙ (under 51 16000 (units_nodes us) _ nodes ∙ (under 52 49152 (globals_bytes (all_globals us)) _ bytes ∙ under 54 512 (length (entry_names (all_functions us))) _ entries))
+    -- what the last step answers is what the units join to
+    pub last_is : (fs : List TFunction) (gs : List TGlobal) (r : Result Program JoinFault) → globals_bytes (all_globals us) ≤ 49152 → fs ≡ all_functions us → gs ≡ all_globals us
+        → (r ≡ Err faults.NoMemory) ⊎ (r ≡ at_most 54 512 (length (entry_names fs)) (Ok (made fs gs))) → Joins us r
+    last_is fs gs r bytes f g (inl h) = inl h
+    last_is fs gs r bytes f g (inr h) = inr (h ∙ (ap₂ (λ a b. at_most 54 512 (length (entry_names a)) (Ok (made a b))) f g ∙ sym (tail_is bytes)))
+
+-- ---- the last step
+
+pub over54 : (fs : List TFunction) (gs : List TGlobal) (es : List (List ℕ)) (found : ℕ) (e : JoinFault) → es ≡ entry_names fs → found ≡ length es → found ≤ 18446744073709551615 → 512 < found → e ≡ faults.Count 54 found → Err e ≡ at_most 54 512 (length (entry_names fs)) (Ok (made fs gs))
+over54 fs gs es found e is size small more f =
+    let many : found ≡ length (entry_names fs) = size ∙ ap length is in
+    let cap : found ≡ capped (length (entry_names fs)) = omega (arith, many, small) in
+    ap Err (f ∙ ap (λ n. faults.Count 54 n) cap) ∙ sym (over 54 512 (length (entry_names fs)) (Ok (made fs gs)) (omega (arith, many, more)))
+
+pub few_names : (fs : List TFunction) (es : List (List ℕ)) (found : ℕ) → es ≡ entry_names fs → found ≡ length es → found ≤ 512 → length (entry_names fs) ≤ 512
+few_names fs es found is size low = let many : found ≡ length (entry_names fs) = size ∙ ap length is in omega (arith, many, low)
+
+pub made_is : (fs : List TFunction) (gs : List TGlobal) (es : List (List ℕ)) → es ≡ entry_names fs → with_entries fs gs es ≡ made fs gs
+made_is fs gs es is = ap (with_entries fs gs) is
+
+pub under54 : (fs : List TFunction) (gs : List TGlobal) → length (entry_names fs) ≤ 512 → Ok (made fs gs) ≡ at_most 54 512 (length (entry_names fs)) (Ok (made fs gs))
+under54 fs gs low = sym (under 54 512 (length (entry_names fs)) (Ok (made fs gs)) low)
 
 -- ---- there are no more functions and globals than nodes
 
@@ -192,8 +211,26 @@ pub globals_fit : (n : ℕ) (us : List TUnit) → All IsUnit us → IsTrue (g.al
 globals_fit n [] all = refl
 globals_fit n (u ∷ us) all = true_is _ (list_all-append (λ x. fits x.ctype) u.globals (per_unit unit_globals (n + 1) us) ∙ ap₂ (λ a b. a && b) (is_true _ (All-head IsUnit u us all).types) (is_true _ (globals_fit (n + 1) us (All-tail IsUnit u us all))))
 
-abbrev made : List TFunction → List TGlobal → List (List ℕ) → Program
-made fs gs es = record { functions = fs; globals = gs; entries = es }
+module _ (us : List TUnit) (all : All IsUnit us) (numbered : Numbered 0 us) (none : NoneUndefined us) (nodes : units_nodes us ≤ 16000) (bytes : globals_bytes (all_globals us) ≤ 49152) where
+  pub makes_program : (fs : List TFunction) (gs : List TGlobal) → fs ≡ all_functions us → gs ≡ all_globals us → length (entry_names fs) ≤ 512 → IsProgram (made fs gs)
+  makes_program fs gs f g few =
+      subst IsProgram (sym (ap₂ made f g))
+      (program_holds us all numbered (no_name_none (defined_twice us) none.0.0) none.0.1 (no_name_none (undefined_use us) none.1) nodes bytes (subst (λ z. length (entry_names z) ≤ 512) f few))
 
-pub program_is : (us : List TUnit) (fs : List TFunction) (gs : List TGlobal) (es : List (List ℕ)) → fs ≡ all_functions us → gs ≡ all_globals us → es ≡ entry_names fs → made fs gs es ≡ program us
-program_is us fs gs es f g e = ap₂ (λ a b. made a b es) f g ∙ ap (made (all_functions us) (all_globals us)) (e ∙ ap entry_names f)
+-- ---- each test of names
+
+pub none61 : (us : List TUnit) (seen : Seen) (name : Option (List ℕ)) → seen ≡ seen_in us → name ≡ name_in seen.again → name ≡ None → name_in (defined_twice us) ≡ None
+none61 us seen name is n h = sym (again_is us seen is name n) ∙ h
+
+pub at61 : (us : List TUnit) (seen : Seen) (name : Option (List ℕ)) (e : JoinFault) → seen ≡ seen_in us → name ≡ name_in seen.again → Fails 61 name e → Joins us (Err e)
+at61 us seen name e is n f = fault61 us e (subst (λ o. Fails 61 o e) (again_is us seen is name n) f)
+
+pub at62 : (us : List TUnit) (name : Option (List ℕ)) (e : JoinFault) → name_in (defined_twice us) ≡ None → name ≡ disputed [] us → Fails 62 name e → Joins us (Err e)
+at62 us name e h61 n f = fault62 us e h61 (subst (λ o. Fails 62 o e) n f)
+
+module _ (us : List TUnit) (seen : Seen) (missing : Option Named) (name : Option (List ℕ)) (is : seen ≡ seen_in us) (h61 : name_in (defined_twice us) ≡ None) (h62 : disputed [] us ≡ None) (m : missing ≡ undefined_from seen.functions seen.globals 0 None us) (n : name ≡ name_in missing) where
+  pub all_none : name ≡ None → NoneUndefined us
+  all_none h = ((h61, h62), sym (missing_is us seen is h61 missing name m n) ∙ h)
+
+  pub at60 : (e : JoinFault) → Fails 60 name e → Joins us (Err e)
+  at60 e f = fault60 us e h61 h62 (subst (λ o. Fails 60 o e) (missing_is us seen is h61 missing name m n) f)

@@ -1,11 +1,11 @@
 -- The keys of a set, seen through what each of them holds.
-use Rattle.std.proofs.Common.{◌≡◌, ℕ, ◌+◌, ◌≤◌, ◌<◌, Bool, true, false, ◌||◌, cond, nat_lt, Option, Some, None, List, [], ◌∷◌, ◌++◌, if◌then◌else◌, map, length, position, refl, sym, ap, ◌∙◌, true≢false, arith, lt-ltb}
+use Rattle.std.proofs.Common.{◌≡◌, ℕ, ◌+◌, ◌≤◌, ◌<◌, Bool, true, false, not, ◌||◌, cond, nat_lt, Option, Some, None, List, [], ◌∷◌, ◌++◌, if◌then◌else◌, map, length, position, refl, sym, ap, ◌∙◌, true≢false, arith, lt-ltb}
 use Rattle.std.proofs.lemmas.List.{length-map, map-append}
 use Rattle.std.specs.List.{list_any, position_or_len}
 
 position_or_len_map : {A B : Type 0} (f : A → B) (p : B → Bool) (xs : List A) → position_or_len p (map f xs) ≡ position_or_len (λ x. p (f x)) xs
 position_or_len_map f p [] = refl
-position_or_len_map f p (x ∷ xs) = ap (λ n. cond (p (f x)) 0 (1 + n)) (position_or_len_map f p xs)
+position_or_len_map f p (x ∷ xs) = ap (λ n. cond (not (p (f x))) (1 + n) 0) (position_or_len_map f p xs)
 
 pub position_map : {A B : Type 0} (f : A → B) (p : B → Bool) (xs : List A) → position p (map f xs) ≡ position (λ x. p (f x)) xs
 position_map f p xs =
@@ -25,7 +25,7 @@ found_within : {A : Type 0} (p : A → Bool) (xs : List A) → list_any p xs ≡
 found_within p [] h = absurd (true≢false (sym h))
 found_within p (x ∷ xs) h = by (p x) (found_within p xs) h
   where
-    by : (b : Bool) → (list_any p xs ≡ true → position_or_len p xs < length xs) → (b || list_any p xs) ≡ true → cond b 0 (1 + position_or_len p xs) < length (x ∷ xs)
+    by : (b : Bool) → (list_any p xs ≡ true → position_or_len p xs < length xs) → (b || list_any p xs) ≡ true → cond (not b) (1 + position_or_len p xs) 0 < length (x ∷ xs)
     by true rest h = omega arith
     by false rest h = let low : position_or_len p xs < length xs = rest h in omega (arith, low)
 

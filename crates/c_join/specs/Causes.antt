@@ -1,11 +1,21 @@
 -- When each fault of a join may come.
-use Rattle.std.specs.Prelude.{◌≡◌, ℕ, ◌≤◌, ◌<◌, List, [], length, Some, None}
-use Rattle.c_tree.specs.Conditions.{TUnit}
+use Rattle.std.specs.Prelude.{◌≡◌, ◌⊎◌, ℕ, ◌≤◌, ◌<◌, List, [], length, Some, None, Err}
+use Rattle.c_tree.specs.declared.program.TFunction.{TFunction}
+use Rattle.c_tree.specs.declared.program.TGlobal.{TGlobal}
+use Rattle.c_tree.specs.Conditions.{Program, TUnit}
 use Rattle.c_tree.specs.Globals.{globals_bytes}
 use Rattle.c_tree.specs.Limits.{capped}
 use Rattle.join_laws.specs.declared.fault.JoinFault.{JoinFault}
 use Rattle.join_laws.specs.declared.fault.JoinFault.TheVariants as fault
-use Rattle.join_laws.specs.Joined.{all_functions, all_globals, defined_twice, disputed, entry_names, name_in, undefined_use, units_nodes}
+use Rattle.join_laws.specs.Joined.{Checked, all_functions, all_globals, defined_twice, disputed, entry_names, joined, name_in, undefined_use, units_nodes}
+
+-- what these units join to, unless memory runs out
+abbrev pub Joins : List TUnit → Checked → Type 0
+Joins us r = (r ≡ Err fault.NoMemory) ⊎ (r ≡ joined us)
+
+-- the program of these functions and globals
+abbrev pub made : List TFunction → List TGlobal → Program
+made fs gs = record { functions = fs; globals = gs; entries = entry_names fs }
 
 -- no name has two definitions, and then none has two types, and then none is used without a definition
 abbrev pub NoneTwice : List TUnit → Type 0
