@@ -1,5 +1,5 @@
 -- A name that stands later among names that differ is none of those before it.
-use Rattle.std.proofs.Common.{◌≡◌, ℕ, zero, suc, ◌||◌, Bool, true, false, not, ◌&&◌, List, [], ◌∷◌, take, slice_get, ap, sym, ◌∙◌, subst, refl, Some, true≢false, bytes_eq}
+use Rattle.std.proofs.Common.{◌≡◌, ℕ, zero, suc, ◌||◌, Bool, true, false, not, ◌&&◌, List, [], ◌∷◌, take, length, ◌<◌, arith, slice_get, slice_index_or, ap, sym, ◌∙◌, subst, refl, Some, true≢false, bytes_eq}
 use Rattle.std.specs.List.{list_any}
 use Rattle.c_tree.specs.declared.program.Extern.{Extern}
 use Rattle.c_tree.specs.Conditions.{all_differ, extern_names}
@@ -30,3 +30,8 @@ is_new (y ∷ ys) (suc i) x d h = by (bytes_eq x.name y.name) refl (list_any (by
         rest false g = g
     by true is true other e go = absurd (true≢false (sym e))
     by true is false other e go = absurd (true≢false (sym (among ys i x y.name (sym (names_equal x.name y.name is)) h) ∙ other))
+
+pub item_at : (xs : List Extern) (i : ℕ) (x : Extern) → i < length xs → x ≡ slice_index_or xs i x → slice_get xs i ≡ Some x
+item_at [] i x lt is = absurd (omega arith)
+item_at (y ∷ ys) zero x lt is = ap Some (sym is)
+item_at (y ∷ ys) (suc i) x lt is = item_at ys i x (omega arith) is
