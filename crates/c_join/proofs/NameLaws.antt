@@ -2,7 +2,8 @@
 use Rattle.std.proofs.Common.{◌≡◌, ℕ, zero, suc, ◌||◌, Bool, true, false, not, ◌&&◌, List, [], ◌∷◌, take, length, ◌<◌, arith, slice_get, slice_index_or, ap, sym, ◌∙◌, subst, refl, Some, true≢false, bytes_eq}
 use Rattle.std.specs.List.{list_any}
 use Rattle.c_tree.specs.declared.program.Extern.{Extern}
-use Rattle.c_tree.specs.Conditions.{all_differ, extern_names}
+use Rattle.c_tree.specs.Conditions.{TUnit, all_differ, extern_names}
+use Rattle.join_laws.specs.Keys.{unit_names}
 use Rattle.join_laws.proofs.Declared.{name_same, names_equal}
 
 among : (xs : List Extern) (m : ℕ) (x : Extern) (name : List ℕ) → name ≡ x.name → slice_get xs m ≡ Some x → list_any (bytes_eq name) (extern_names xs) ≡ true
@@ -35,3 +36,9 @@ pub item_at : (xs : List Extern) (i : ℕ) (x : Extern) → i < length xs → x 
 item_at [] i x lt is = absurd (omega arith)
 item_at (y ∷ ys) zero x lt is = ap Some (sym is)
 item_at (y ∷ ys) (suc i) x lt is = item_at ys i x (omega arith) is
+
+pub unit_names_take : (us : List TUnit) (n : ℕ) → take n (unit_names us) ≡ unit_names (take n us)
+unit_names_take [] zero = refl
+unit_names_take [] (suc n) = refl
+unit_names_take (u ∷ us) zero = refl
+unit_names_take (u ∷ us) (suc n) = ap (λ ns. extern_names u.externs ∷ ns) (unit_names_take us n)
