@@ -45,7 +45,7 @@ pub undefined_more : (fk gk : List Key) (us : List TUnit) (i : ℕ) (u : TUnit) 
 undefined_more fk gk us i u old new all numbers externs fs lt is ex fu num made inv =
     let here : undefined_from fk gk i old (drop i us) ≡ undefined_from fk gk i old (u ∷ drop (i + 1) us) = at_drop_more (undefined_from fk gk i old) us i u lt ∙ ap (λ z. undefined_from fk gk i old (z ∷ drop (i + 1) us)) (sym is) in
     let next : new ≡ noted (numbers_of fk gk i u.externs) u.externs old (functions_uses u.functions) = made
-        ∙ (ap (λ ns. noted ns externs old (functions_uses fs)) num
-        ∙ (ap (λ es. noted (numbers_of fk gk i es) es old (functions_uses fs)) ex
-        ∙ ap (λ hs. noted (numbers_of fk gk i u.externs) u.externs old (functions_uses hs)) fu)) in
+    ∙ (ap (λ ns. noted ns externs old (functions_uses fs)) num
+    ∙ (ap (λ es. noted (numbers_of fk gk i es) es old (functions_uses fs)) ex
+    ∙ ap (λ hs. noted (numbers_of fk gk i u.externs) u.externs old (functions_uses hs)) fu)) in
     ap (λ b. undefined_from fk gk (i + 1) b (drop (i + 1) us)) next ∙ (sym here ∙ inv)

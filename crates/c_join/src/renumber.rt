@@ -26,6 +26,38 @@ pub fn or_same(new: Option<Shared<Expr>>, old: &Shared<Expr>) -> Result<Shared<E
     }
 }
 
+/// Both operands, or None where neither changes.
+fn both(
+    x: Option<Shared<Expr>>,
+    y: Option<Shared<Expr>>,
+    a: &Shared<Expr>,
+    b: &Shared<Expr>,
+) -> Result<Option<(Shared<Expr>, Shared<Expr>)>, NoMemory>
+    ensures { IfOk result (λ r. unwrap_or r (a.now, b.now) ≡ (unwrap_or x a.now, unwrap_or y b.now)) }
+{
+    if x.is_none() && y.is_none() {
+        return Ok(None);
+    }
+    Ok(Some((or_same(x, a)?, or_same(y, b)?)))
+}
+
+/// All three operands, or None where none changes.
+fn all_three(
+    x: Option<Shared<Expr>>,
+    y: Option<Shared<Expr>>,
+    z: Option<Shared<Expr>>,
+    a: &Shared<Expr>,
+    b: &Shared<Expr>,
+    c: &Shared<Expr>,
+) -> Result<Option<(Shared<Expr>, Shared<Expr>, Shared<Expr>)>, NoMemory>
+    ensures { IfOk result (λ r. unwrap_or r (a.now, b.now, c.now) ≡ (unwrap_or x a.now, unwrap_or y b.now, unwrap_or z c.now)) }
+{
+    if x.is_none() && y.is_none() && z.is_none() {
+        return Ok(None);
+    }
+    Ok(Some((or_same(x, a)?, or_same(y, b)?, or_same(z, c)?)))
+}
+
 /// None where nothing changes.
 #[cycle(renumber)]
 pub fn renumber(
@@ -77,35 +109,77 @@ fn renumber_kind(
             None => Ok(None),
             Some(a) => Ok(Some(ExprKind::Unary(*op, a))),
         },
-        ExprKind::Binary(op, a, b) => match renumber_two(alloc, a, b, numbers)? {
+        ExprKind::Binary(op, a, b) => match both(
+            renumber(alloc, a.get(), numbers)?,
+            renumber(alloc, b.get(), numbers)?,
+            a,
+            b,
+        )? {
             None => Ok(None),
             Some((a, b)) => Ok(Some(ExprKind::Binary(*op, a, b))),
         },
-        ExprKind::PtrAdd(a, b, size) => match renumber_two(alloc, a, b, numbers)? {
+        ExprKind::PtrAdd(a, b, size) => match both(
+            renumber(alloc, a.get(), numbers)?,
+            renumber(alloc, b.get(), numbers)?,
+            a,
+            b,
+        )? {
             None => Ok(None),
             Some((a, b)) => Ok(Some(ExprKind::PtrAdd(a, b, *size))),
         },
-        ExprKind::PtrDiff(a, b, size) => match renumber_two(alloc, a, b, numbers)? {
+        ExprKind::PtrDiff(a, b, size) => match both(
+            renumber(alloc, a.get(), numbers)?,
+            renumber(alloc, b.get(), numbers)?,
+            a,
+            b,
+        )? {
             None => Ok(None),
             Some((a, b)) => Ok(Some(ExprKind::PtrDiff(a, b, *size))),
         },
-        ExprKind::And(a, b) => match renumber_two(alloc, a, b, numbers)? {
+        ExprKind::And(a, b) => match both(
+            renumber(alloc, a.get(), numbers)?,
+            renumber(alloc, b.get(), numbers)?,
+            a,
+            b,
+        )? {
             None => Ok(None),
             Some((a, b)) => Ok(Some(ExprKind::And(a, b))),
         },
-        ExprKind::Or(a, b) => match renumber_two(alloc, a, b, numbers)? {
+        ExprKind::Or(a, b) => match both(
+            renumber(alloc, a.get(), numbers)?,
+            renumber(alloc, b.get(), numbers)?,
+            a,
+            b,
+        )? {
             None => Ok(None),
             Some((a, b)) => Ok(Some(ExprKind::Or(a, b))),
         },
-        ExprKind::Cond(a, b, c) => match renumber_three(alloc, a, b, c, numbers)? {
+        ExprKind::Cond(a, b, c) => match all_three(
+            renumber(alloc, a.get(), numbers)?,
+            renumber(alloc, b.get(), numbers)?,
+            renumber(alloc, c.get(), numbers)?,
+            a,
+            b,
+            c,
+        )? {
             None => Ok(None),
             Some((a, b, c)) => Ok(Some(ExprKind::Cond(a, b, c))),
         },
-        ExprKind::Assign(a, b) => match renumber_two(alloc, a, b, numbers)? {
+        ExprKind::Assign(a, b) => match both(
+            renumber(alloc, a.get(), numbers)?,
+            renumber(alloc, b.get(), numbers)?,
+            a,
+            b,
+        )? {
             None => Ok(None),
             Some((a, b)) => Ok(Some(ExprKind::Assign(a, b))),
         },
-        ExprKind::AssignOp(op, a, b) => match renumber_two(alloc, a, b, numbers)? {
+        ExprKind::AssignOp(op, a, b) => match both(
+            renumber(alloc, a.get(), numbers)?,
+            renumber(alloc, b.get(), numbers)?,
+            a,
+            b,
+        )? {
             None => Ok(None),
             Some((a, b)) => Ok(Some(ExprKind::AssignOp(*op, a, b))),
         },
@@ -113,7 +187,12 @@ fn renumber_kind(
             None => Ok(None),
             Some(a) => Ok(Some(ExprKind::Step(a, *by, *old))),
         },
-        ExprKind::Comma(a, b) => match renumber_two(alloc, a, b, numbers)? {
+        ExprKind::Comma(a, b) => match both(
+            renumber(alloc, a.get(), numbers)?,
+            renumber(alloc, b.get(), numbers)?,
+            a,
+            b,
+        )? {
             None => Ok(None),
             Some((a, b)) => Ok(Some(ExprKind::Comma(a, b))),
         },
@@ -127,7 +206,14 @@ fn renumber_kind(
             let args = renumber_all(alloc, args.as_slice(), numbers)?;
             Ok(Some(ExprKind::NsCall(p, args)))
         }
-        ExprKind::Range(a, b, c) => match renumber_three(alloc, a, b, c, numbers)? {
+        ExprKind::Range(a, b, c) => match all_three(
+            renumber(alloc, a.get(), numbers)?,
+            renumber(alloc, b.get(), numbers)?,
+            renumber(alloc, c.get(), numbers)?,
+            a,
+            b,
+            c,
+        )? {
             None => Ok(None),
             Some((a, b, c)) => Ok(Some(ExprKind::Range(a, b, c))),
         },
@@ -140,46 +226,6 @@ fn renumber_kind(
             Some(a) => Ok(Some(ExprKind::NsTest(a))),
         },
     }
-}
-
-/// Both operands, or None where neither changes.
-#[cycle(renumber)]
-fn renumber_two(
-    alloc: Global,
-    a: &Shared<Expr>,
-    b: &Shared<Expr>,
-    numbers: &[Option<u32>],
-) -> Result<Option<(Shared<Expr>, Shared<Expr>)>, NoMemory>
-    ensures { IfOk result (λ r. unwrap_or r (a.now, b.now)
-        ≡ (spec.renumbered numbers.now a.now, spec.renumbered numbers.now b.now)) }
-{
-    let x = renumber(alloc, a.get(), numbers)?;
-    let y = renumber(alloc, b.get(), numbers)?;
-    if x.is_none() && y.is_none() {
-        return Ok(None);
-    }
-    Ok(Some((or_same(x, a)?, or_same(y, b)?)))
-}
-
-/// All three operands, or None where none changes.
-#[cycle(renumber)]
-fn renumber_three(
-    alloc: Global,
-    a: &Shared<Expr>,
-    b: &Shared<Expr>,
-    c: &Shared<Expr>,
-    numbers: &[Option<u32>],
-) -> Result<Option<(Shared<Expr>, Shared<Expr>, Shared<Expr>)>, NoMemory>
-    ensures { IfOk result (λ r. unwrap_or r (a.now, b.now, c.now)
-        ≡ (spec.renumbered numbers.now a.now, spec.renumbered numbers.now b.now, spec.renumbered numbers.now c.now)) }
-{
-    let x = renumber(alloc, a.get(), numbers)?;
-    let y = renumber(alloc, b.get(), numbers)?;
-    let z = renumber(alloc, c.get(), numbers)?;
-    if x.is_none() && y.is_none() && z.is_none() {
-        return Ok(None);
-    }
-    Ok(Some((or_same(x, a)?, or_same(y, b)?, or_same(z, c)?)))
 }
 
 /// All expressions of a list, each of them new or shared.
