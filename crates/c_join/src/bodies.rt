@@ -7,8 +7,14 @@ use c_tree::{Part, Stmt};
 use cm_base::{List, NoMemory, Shared};
 use std::alloc::Global;
 
+/// A statement as a node.
+fn node(alloc: Global, s: Stmt) -> Result<Shared<Stmt>, NoMemory>
+    ensures { IfOk result (λ r. r ≡ s) }
+{
+    Shared::new(alloc, s)
+}
+
 /// The statement anew. Its expressions are shared where they don't change.
-#[cycle(stmts)]
 pub fn renumber_stmt(
     alloc: Global,
     s: &Stmt,
@@ -16,47 +22,53 @@ pub fn renumber_stmt(
 ) -> Result<Shared<Stmt>, NoMemory>
     ensures { IfOk result (λ r. r ≡ spec.renumbered_stmt numbers.now s.now) }
 {
-    let new = match s {
-        Stmt::Empty => Stmt::Empty,
-        Stmt::Break => Stmt::Break,
-        Stmt::Continue => Stmt::Continue,
-        Stmt::Expr(e) => Stmt::Expr(renumber_shared(alloc, e, numbers)?),
-        Stmt::Declare { local, items } => Stmt::Declare {
+    node(alloc, stmt_anew(alloc, s, numbers)?)
+}
+
+#[cycle(stmts)]
+fn stmt_anew(alloc: Global, s: &Stmt, numbers: &[Option<u32>]) -> Result<Stmt, NoMemory>
+    ensures { IfOk result (λ r. r ≡ spec.renumbered_stmt numbers.now s.now) }
+{
+    match s {
+        Stmt::Empty => Ok(Stmt::Empty),
+        Stmt::Break => Ok(Stmt::Break),
+        Stmt::Continue => Ok(Stmt::Continue),
+        Stmt::Expr(e) => Ok(Stmt::Expr(renumber_shared(alloc, e, numbers)?)),
+        Stmt::Declare { local, items } => Ok(Stmt::Declare {
             local: *local,
             items: renumber_items(alloc, items.as_slice(), numbers)?,
-        },
-        Stmt::Block(list) => Stmt::Block(renumber_stmts(alloc, list.as_slice(), numbers)?),
-        Stmt::If { test, yes, no } => Stmt::If {
+        }),
+        Stmt::Block(list) => Ok(Stmt::Block(renumber_stmts(alloc, list.as_slice(), numbers)?)),
+        Stmt::If { test, yes, no } => Ok(Stmt::If {
             test: renumber_shared(alloc, test, numbers)?,
-            yes: renumber_stmt(alloc, yes.get(), numbers)?,
+            yes: node(alloc, stmt_anew(alloc, yes.get(), numbers)?)?,
             no: renumber_stmt_or(alloc, no, numbers)?,
-        },
-        Stmt::While { test, body } => Stmt::While {
+        }),
+        Stmt::While { test, body } => Ok(Stmt::While {
             test: renumber_shared(alloc, test, numbers)?,
-            body: renumber_stmt(alloc, body.get(), numbers)?,
-        },
-        Stmt::DoWhile { body, test } => Stmt::DoWhile {
-            body: renumber_stmt(alloc, body.get(), numbers)?,
+            body: node(alloc, stmt_anew(alloc, body.get(), numbers)?)?,
+        }),
+        Stmt::DoWhile { body, test } => Ok(Stmt::DoWhile {
+            body: node(alloc, stmt_anew(alloc, body.get(), numbers)?)?,
             test: renumber_shared(alloc, test, numbers)?,
-        },
+        }),
         Stmt::For {
             first,
             test,
             next,
             body,
-        } => Stmt::For {
+        } => Ok(Stmt::For {
             first: renumber_stmts(alloc, first.as_slice(), numbers)?,
             test: renumber_or(alloc, test, numbers)?,
             next: renumber_or(alloc, next, numbers)?,
-            body: renumber_stmt(alloc, body.get(), numbers)?,
-        },
-        Stmt::Switch { value, parts } => Stmt::Switch {
+            body: node(alloc, stmt_anew(alloc, body.get(), numbers)?)?,
+        }),
+        Stmt::Switch { value, parts } => Ok(Stmt::Switch {
             value: renumber_shared(alloc, value, numbers)?,
             parts: renumber_parts(alloc, parts.as_slice(), numbers)?,
-        },
-        Stmt::Return(value) => Stmt::Return(renumber_or(alloc, value, numbers)?),
-    };
-    Shared::new(alloc, new)
+        }),
+        Stmt::Return(value) => Ok(Stmt::Return(renumber_or(alloc, value, numbers)?)),
+    }
 }
 
 #[cycle(stmts)]
@@ -69,7 +81,7 @@ fn renumber_stmt_or(
 {
     match s {
         None => Ok(None),
-        Some(s) => Ok(Some(renumber_stmt(alloc, s.get(), numbers)?)),
+        Some(s) => Ok(Some(node(alloc, stmt_anew(alloc, s.get(), numbers)?)?)),
     }
 }
 
@@ -83,7 +95,7 @@ fn renumber_stmts(
 {
     let mut done = List::new(alloc);
     for s in list {
-        done.push(renumber_stmt(alloc, s.get(), numbers)?)?;
+        done.push(node(alloc, stmt_anew(alloc, s.get(), numbers)?)?)?;
     }
     Ok(done)
 }
@@ -95,7 +107,7 @@ fn renumber_part(alloc: Global, part: &Part, numbers: &[Option<u32>]) -> Result<
     match part {
         Part::Case(v) => Ok(Part::Case(*v)),
         Part::Default => Ok(Part::Default),
-        Part::Stmt(s) => Ok(Part::Stmt(renumber_stmt(alloc, s.get(), numbers)?)),
+        Part::Stmt(s) => Ok(Part::Stmt(node(alloc, stmt_anew(alloc, s.get(), numbers)?)?)),
     }
 }
 
