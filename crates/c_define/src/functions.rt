@@ -285,6 +285,12 @@ pub fn defined(alloc: Global, f: &Function, tables: &mut Tables) -> Result<TFunc
     ensures { Leaves result tables.new (spec.defined f.now tables.old) }
 {
     let head = heading_of(alloc, f.specs.as_slice(), tables, at_file(), true)?;
-    let formed = form(alloc, &f.declarator.form, tables, at_file(), head.attributes)?;
+    let formed = form(
+        alloc,
+        &f.declarator.form,
+        tables,
+        at_file(),
+        head.attributes,
+    )?;
     function_formed(alloc, f, tables, &head, &formed)
 }

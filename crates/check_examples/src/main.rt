@@ -1,5 +1,6 @@
 //! Checks the sources that it reads, each of which ends with `@`, and prints a line for each: its first fault, or the functions
-//! that it defines with their nodes and slots, and its globals with their first bytes.
+//! that it defines with their nodes and slots, and its globals with their bytes. It checks each as often as its argument
+//! says: `bench/check` measures it.
 #![tactic(auto)]
 
 use c_define::{Made, parts_typed};
@@ -10,8 +11,8 @@ use c_scope::Tables;
 use c_tree::{TFunction, TGlobal, function_nodes, slots};
 use cm_base::Place;
 use std::alloc::Global;
-use std::io;
 use std::io::Read;
+use std::{env, io};
 
 /// Why a source has no typed tree.
 #[derive(Clone, Copy, Debug, PartialEq, Eq)]
@@ -80,7 +81,10 @@ fn print_unit(rt: &HostRuntime, unit: &Made) -> io::Result<()> {
     println!(rt; "")
 }
 
-fn show(rt: &HostRuntime, text: &[u8]) -> io::Result<()> {
+fn show(rt: &HostRuntime, text: &[u8], rounds: u32) -> io::Result<()> {
+    for _round in 1..rounds {
+        let _again = checked(rt.alloc(), text);
+    }
     match checked(rt.alloc(), text) {
         Ok(unit) => print_unit(rt, &unit),
         Err(Fault::At { code, place }) => {
@@ -103,11 +107,15 @@ fn behind_line_end(text: &[u8]) -> &[u8] {
 fn main(rt: HostRuntime) -> io::Result<()> {
     let mut text: Vec<u8> = Vec::new(rt.alloc());
     rt.reader().read_to_end(&mut text)?;
+    let mut rounds: u32 = 1;
+    for word in env::args(&rt)? {
+        rounds = word.as_str().parse::<u32>().unwrap_or(rounds);
+    }
     let all = text.as_slice();
     let mut start = 0usize;
     for i in 0..all.len() {
         if all[i] == b'@' && start <= i {
-            show(&rt, behind_line_end(&all[start..i]))?;
+            show(&rt, behind_line_end(&all[start..i]), rounds)?;
             start = i + 1;
         }
     }
