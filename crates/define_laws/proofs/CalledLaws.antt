@@ -1,5 +1,5 @@
 -- The type of a function that is defined has as many parameters as its declarator names.
-use Rattle.std.proofs.Common.{◌≡◌, ℕ, zero, suc, ◌-◌, ◌==◌, Bool, true, false, List, [], ◌∷◌, length, ap, sym, ◌∙◌, subst, refl, Option, None, Some, Ok, Err, arith, option_and_then, slice_get}
+use Rattle.std.proofs.Common.{◌≡◌, ℕ, zero, suc, ◌-◌, Bool, true, false, List, [], ◌∷◌, length, ap, sym, ◌∙◌, subst, refl, Option, None, Some, Ok, Err, arith, option_and_then, slice_get}
 use Rattle.std.proofs.lemmas.Bool.{eq-eqb}
 use Rattle.std.proofs.lemmas.List.{length-map}
 use Rattle.std.proofs.lemmas.Option.{none-some}
@@ -9,13 +9,13 @@ use Rattle.c_types.specs.declared.ctype.CType.{CType}
 use Rattle.c_types.specs.declared.ctype.Shape.TheOpen as shape
 use Rattle.c_types.specs.declared.ctype.Shape.TheVariants.{rolls-Function}
 use Rattle.c_types.specs.Derived.{parameter}
-use Rattle.c_types.specs.Kind.{Look, is_function, is_result, is_struct, look}
+use Rattle.c_types.specs.Kind.{Look, is_result, is_struct, look}
 use Rattle.c_tree.specs.Numbers.{looks_called}
 use Rattle.c_rows.specs.Answers.{Checked, ◌>>=◌}
 use Rattle.cmse_rules.specs.declared.attributes.Attributes.{Attributes}
 use Rattle.cmse_rules.specs.declared.attributes.Subject.{Subject}
 use Rattle.cmse_rules.specs.Attributes.{attributes, misplaced}
-use Rattle.cmse_rules.specs.Pointers.{is_many, marked, marked_behind, marked_function, marked_in, nonsecure_declared, or_fault, reached_params, steps}
+use Rattle.cmse_rules.specs.Pointers.{is_many, marked_behind, marked_function, marked_in, or_fault, reached_params, steps}
 use Rattle.c_derive.specs.declared.derivations.Derivation.{Derivation}
 use Rattle.c_derive.specs.declared.derivations.Derivation.TheVariants as by
 use Rattle.c_derive.specs.declared.derivations.Param.{Param}

@@ -1,19 +1,16 @@
 -- A function that is defined is within the limits, and stands among the externs.
-use Rattle.std.proofs.Common.{◌≡◌, ℕ, zero, suc, ◌+◌, ◌-◌, ◌≤◌, ◌&&◌, Bool, true, false, cond, nat_lt, List, [], ◌∷◌, ◌++◌, length, take, drop, ap, sym, ◌∙◌, subst, refl, Option, None, Some, Ok, Err, arith, le_refl, slice_get, slice_set, ltb-false}
-use Rattle.std.specs.List.{list_all}
+use Rattle.std.proofs.Common.{◌≡◌, ℕ, ◌+◌, ◌≤◌, ◌&&◌, Bool, true, false, cond, nat_lt, List, [], ◌∷◌, length, drop, ap, sym, ◌∙◌, subst, refl, Option, None, Some, Ok, Err, arith, slice_get, ltb-false}
 use Rattle.std.proofs.lemmas.List.{drop_all, length-drop, length-take-le, length_push}
 use Rattle.std.proofs.lemmas.Option.{none-some}
-use Rattle.cm_base.specs.declared.place.Place.{Place}
 use Rattle.c_ast.specs.declared.expr.Name.{Name}
 use Rattle.c_ast.specs.declared.stmt.Block.{Block}
 use Rattle.c_ast.specs.declared.stmt.Function.{Function}
 use Rattle.c_types.specs.declared.ctype.CType.{CType}
 use Rattle.c_types.specs.Kind.{look}
-use Rattle.c_types.specs.Same.{same_type}
 use Rattle.c_tree.specs.declared.program.TFunction.{TFunction}
 use Rattle.c_tree.specs.declared.program.TLocal.{TLocal}
 use Rattle.c_tree.specs.declared.stmt.Stmt.{Stmt}
-use Rattle.c_tree.specs.Conditions.{IsFunction, is_twin}
+use Rattle.c_tree.specs.Conditions.{is_twin}
 use Rattle.c_tree.specs.Nodes.{function_nodes}
 use Rattle.c_tree.specs.Numbers.{looks_called}
 use Rattle.c_tree.specs.Slots.{all_fit, placed_bytes, slots}
@@ -36,7 +33,7 @@ use Rattle.c_decl.specs.Globals.{at_file}
 use Rattle.c_decl.specs.Headings.{declared_as, heading_of, is_typedef, linkage}
 use Rattle.c_body.specs.Stmts.{body}
 use Rattle.c_define.specs.Functions.{defined, defined_params, entered, first_of, function_declared, function_formed, function_made, function_of, gives_of, if_function, in_body, is_too_large, many_params, outside, own_params, rule_broken, state_of, unless, with_body, with_param, within_limits}
-use Rattle.later_laws.specs.Later.{AreSound, Later}
+use Rattle.later_laws.specs.Later.{AreSound}
 use Rattle.later_laws.proofs.LaterLaws.{sound_beside, stands_same}
 use Rattle.range_laws.specs.Few.{IsFit, derivations_few, few, params_few}
 use Rattle.range_laws.specs.Ranges.{Follows, names}
@@ -111,21 +108,21 @@ first_none : (a b : Option ℕ) → first_of a b ≡ None → (a ≡ None) × (b
 first_none (Some code) b e = no_fault code e
 first_none None b e = (refl, e)
 
+one_by : (b : Bool) (x : ℕ) → cond b (Some x) None ≡ None → b ≡ false
+one_by true x e = no_fault x e
+one_by false x e = refl
+
 few_enough : (many : ℕ) → many_params many ≡ None → many ≤ 8
-few_enough many e = by (nat_lt 8 many) refl
-  where
-    by : (b : Bool) → nat_lt 8 many ≡ b → many ≤ 8
-    by true h = no_fault 56 (sym (ap (λ b. cond b (Some 56) None) h) ∙ e)
-    by false h = ltb-false 8 many h
+few_enough many e = ltb-false 8 many (one_by (nat_lt 8 many) 56 e)
+
+two_by : (b c : Bool) (x y : ℕ) → cond b (Some x) (cond c (Some y) None) ≡ None → (b ≡ false) × (c ≡ false)
+two_by true c x y e = no_fault x e
+two_by false true x y e = no_fault y e
+two_by false false x y e = (refl, refl)
 
 entry_holds : (many : ℕ) (entry is_static : Bool) → entry_rule entry many is_static ≡ None → entry ≡ true → (many ≤ 4) × (is_static ≡ false)
 entry_holds many false is_static e h = no h
-entry_holds many true is_static e h = by (nat_lt 4 many) refl is_static e
-  where
-    by : (b : Bool) → nat_lt 4 many ≡ b → (c : Bool) → cond (nat_lt 4 many) (Some 41) (cond c (Some 43) None) ≡ None → (many ≤ 4) × (c ≡ false)
-    by true k c g = no_fault 41 (sym (ap (λ b. cond b (Some 41) (cond c (Some 43) None)) k) ∙ g)
-    by false k true g = no_fault 43 (sym (ap (λ b. cond b (Some 41) (Some 43)) k) ∙ g)
-    by false k false g = (ltb-false 4 many k, refl)
+entry_holds many true is_static e h = let r = two_by (nat_lt 4 many) is_static 41 43 e in (ltb-false 4 many r.0, r.1)
 
 not_large : (f : TFunction) → all_fit f.locals ≡ true → is_too_large f ≡ false → placed_bytes f ≤ 16384
 not_large f h k = ltb-false 16384 (placed_bytes f) (by (all_fit f.locals) h k)

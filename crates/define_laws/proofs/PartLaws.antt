@@ -1,5 +1,5 @@
 -- What the parts of a unit define, one after another, makes a unit.
-use Rattle.std.proofs.Common.{◌≡◌, ℕ, ◌&&◌, Bool, true, false, not, List, [], ◌∷◌, ◌++◌, map, ap, ap₂, sym, ◌∙◌, subst, refl, Option, None, Some, Ok, Err, All, option_map, slice_get}
+use Rattle.std.proofs.Common.{◌≡◌, ℕ, Bool, true, false, not, List, [], ◌∷◌, ap, ◌∙◌, subst, refl, Some, Ok, All, option_map}
 use Rattle.std.specs.List.{list_all}
 use Rattle.std.proofs.lemmas.List.Elements.{All-cons, All-head, All-nil, All-push, All-tail, All-weaker}
 use Rattle.std.proofs.lemmas.Option.{slice_get-map}
@@ -8,7 +8,6 @@ use Rattle.c_ast.specs.declared.stmt.External.TheVariants.{Include, Decl, Functi
 use Rattle.c_types.specs.declared.ctype.CType.{CType}
 use Rattle.c_types.specs.Kind.{look}
 use Rattle.c_types.specs.Same.{same_flag, same_type}
-use Rattle.c_types.specs.Sizes.{fits}
 use Rattle.c_tree.specs.declared.program.Extern.{Extern}
 use Rattle.c_tree.specs.declared.program.TFunction.{TFunction}
 use Rattle.c_tree.specs.declared.program.TGlobal.{TGlobal}
@@ -20,14 +19,12 @@ use Rattle.c_scope.specs.declared.tables.Tables.{Tables}
 use Rattle.c_scope.specs.FileScope.{is_unsized}
 use Rattle.c_scope.specs.Headers.{include}
 use Rattle.c_scope.specs.Lookup.{nothing}
-use Rattle.c_scope.specs.Steps.{◌>>>◌}
 use Rattle.c_decl.specs.Globals.{file_declaration}
 use Rattle.c_define.specs.declared.units.Made.{Made}
 use Rattle.c_define.specs.Functions.{defined}
 use Rattle.c_define.specs.Units.{extern_of, externs_of, no_definitions, part_typed, parts_typed, unit_of, with_function, with_globals}
 use Rattle.join_laws.proofs.Declared.{declared_itself}
-use Rattle.later_laws.specs.Later.{AreSound, Later, is_free, names_of}
-use Rattle.later_laws.proofs.LaterLaws.{kept_later}
+use Rattle.later_laws.specs.Later.{AreSound, is_free, names_of}
 use Rattle.range_laws.specs.Few.{IsFit}
 use Rattle.range_laws.specs.Ranges.{Follows, names}
 use Rattle.range_laws.specs.Steps.{Passes}

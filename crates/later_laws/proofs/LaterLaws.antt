@@ -30,11 +30,11 @@ later_itself k = record { name = refl; type = λ h. refl; body = λ h. h; linkag
 
 pub later_then : (k l m : Known) → IsLater k l → IsLater l m → IsLater k m
 later_then k l m f g = record {
-    name = g.name ∙ f.name;
-    type = λ h. g.type (ap (λ t. is_unsized (look t)) (f.type h) ∙ h) ∙ f.type h;
-    body = λ h. g.body (f.body h);
-    linkage = λ h. g.linkage (f.body h) ∙ f.linkage h;
-  }
+  name = g.name ∙ f.name;
+  type = λ h. g.type (ap (λ t. is_unsized (look t)) (f.type h) ∙ h) ∙ f.type h;
+  body = λ h. g.body (f.body h);
+  linkage = λ h. g.linkage (f.body h) ∙ f.linkage h;
+}
 
 -- ---- externs
 
@@ -191,21 +191,21 @@ length_last (y ∷ ys) x = ap suc (length_last ys x)
 -- the same names with the same meanings, and the same externs
 pub sound_beside : (s t : Tables) → t.externs ≡ s.externs → t.names ≡ s.names → t.meanings ≡ s.meanings → AreSound s → AreSound t
 sound_beside s t e n m h = record {
-    aligned = ap (λ (xs : List (List ℕ)). length xs) n ∙ (h.aligned ∙ sym (ap (λ (xs : List Meaning). length xs) m));
-    keyed = λ i j g. let k = h.keyed i j (sym (ap (λ ms. slice_get ms i) m) ∙ g) in record { known = k.known; there = ap (λ ks. slice_get ks j) e ∙ k.there; name = ap (λ ns. slice_get ns i) n ∙ k.name };
-    differ = ap (λ ks. all_differ (names_of ks)) e ∙ h.differ;
-    free = ap (λ ks. list_all is_free (names_of ks)) e ∙ h.free;
-    listed = ap (λ ns. list_all (is_listed ns) (names_of t.externs)) n ∙ (ap (λ ks. list_all (is_listed s.names) (names_of ks)) e ∙ h.listed);
-  }
+  aligned = ap (λ (xs : List (List ℕ)). length xs) n ∙ (h.aligned ∙ sym (ap (λ (xs : List Meaning). length xs) m));
+  keyed = λ i j g. let k = h.keyed i j (sym (ap (λ ms. slice_get ms i) m) ∙ g) in record { known = k.known; there = ap (λ ks. slice_get ks j) e ∙ k.there; name = ap (λ ns. slice_get ns i) n ∙ k.name };
+  differ = ap (λ ks. all_differ (names_of ks)) e ∙ h.differ;
+  free = ap (λ ks. list_all is_free (names_of ks)) e ∙ h.free;
+  listed = ap (λ ns. list_all (is_listed ns) (names_of t.externs)) n ∙ (ap (λ ks. list_all (is_listed s.names) (names_of ks)) e ∙ h.listed);
+}
 
 pub later_same : (s : Tables) → Later s s
 later_same s = record { externs = stands_same s.externs; sound = λ h. h }
 
 pub later_trans : (s t u : Tables) → Later s t → Later t u → Later s u
 later_trans s t u f g = record {
-    externs = λ n k h. let a = f.externs n k h in let b = g.externs n a.now a.there in record { now = b.now; there = b.there; later = later_then k a.now b.now a.later b.later };
-    sound = λ h. g.sound (f.sound h);
-  }
+  externs = λ n k h. let a = f.externs n k h in let b = g.externs n a.now a.there in record { now = b.now; there = b.there; later = later_then k a.now b.now a.later b.later };
+  sound = λ h. g.sound (f.sound h);
+}
 
 pub kept_same : (s : Tables) → Kept s s
 kept_same s = record { externs = refl; sound = λ h. h; locals = λ m h. h }
@@ -252,8 +252,8 @@ kept_locals s ls f = record { externs = refl; sound = sound_beside s (record s {
 -- an extern in the place of another
 pub later_set : (s : Tables) (n : ℕ) (k y : Known) → slice_get s.externs n ≡ Some k → IsLater k y → Later s (record s { externs = slice_set s.externs n y })
 later_set s n k y is f = record {
-    externs = stands_set s.externs n k y is f;
-    sound = λ h.
+  externs = stands_set s.externs n k y is f;
+  sound = λ h.
       let e = names_set s.externs n k y is f.name in
       record {
         aligned = h.aligned;
@@ -262,7 +262,7 @@ later_set s n k y is f = record {
         free = subst (λ ns. list_all is_free ns ≡ true) (sym e) h.free;
         listed = subst (λ ns. list_all (is_listed s.names) ns ≡ true) (sym e) h.listed;
       };
-  }
+}
 
 abbrev pub not_extern : Meaning → Bool
 not_extern (Extern n) = false
@@ -277,16 +277,16 @@ no_extern m n h e = no (sym (ap not_extern e) ∙ h)
 -- a new name of file scope that is no function and no global
 pub kept_meaning : (s : Tables) (text : List ℕ) (m : Meaning) → place_of s.names text ≡ None → not_extern m ≡ true → Kept s (with_meaning text m s)
 kept_meaning s text m new plain = record {
-    externs = refl;
-    sound = λ h. record {
-      aligned = ap (λ (xs : List (List ℕ)). length xs) (added_new s.names text new) ∙ (length_last s.names text ∙ (ap suc h.aligned ∙ sym (length_last s.meanings m)));
-      keyed = λ i n g. keyed h i n (placed_in s.meanings m (Extern n) i g);
-      differ = h.differ;
-      free = h.free;
-      listed = subst (λ ns. list_all (is_listed ns) (names_of s.externs) ≡ true) (sym (added_new s.names text new)) (listed_push s.names (names_of s.externs) text h.listed);
-    };
-    locals = λ i h. h;
-  }
+  externs = refl;
+  sound = λ h. record {
+    aligned = ap (λ (xs : List (List ℕ)). length xs) (added_new s.names text new) ∙ (length_last s.names text ∙ (ap suc h.aligned ∙ sym (length_last s.meanings m)));
+    keyed = λ i n g. keyed h i n (placed_in s.meanings m (Extern n) i g);
+    differ = h.differ;
+    free = h.free;
+    listed = subst (λ ns. list_all (is_listed ns) (names_of s.externs) ≡ true) (sym (added_new s.names text new)) (listed_push s.names (names_of s.externs) text h.listed);
+  };
+  locals = λ i h. h;
+}
   where
     keyed : AreSound s → (i n : ℕ) → Placed s.meanings m (Extern n) i → Keyed (with_meaning text m s) i n
     keyed h i n (before g) = let k = h.keyed i n g in record { known = k.known; there = k.there; name = ap (λ ns. slice_get ns i) (added_new s.names text new) ∙ get_first s.names text k.known.name i k.name }
@@ -295,9 +295,9 @@ kept_meaning s text m new plain = record {
 -- an extern of a new name
 pub later_new : (s : Tables) (k : Known) → place_of s.names k.name ≡ None → is_twin k.name ≡ false → Later s (with_known k s)
 later_new s k new free = record {
-    externs = stands_push s.externs k;
-    sound = λ h. sound h;
-  }
+  externs = stands_push s.externs k;
+  sound = λ h. sound h;
+}
   where
     e : names_of (s.externs ++ k ∷ []) ≡ names_of s.externs ++ k.name ∷ []
     e = map-append (λ (x : Known). x.name) s.externs (k ∷ [])
@@ -315,12 +315,12 @@ later_new s k new free = record {
 
     sound : AreSound s → AreSound (with_known k s)
     sound h = record {
-        aligned = ap (λ (xs : List (List ℕ)). length xs) (added_new s.names k.name new) ∙ (length_last s.names k.name ∙ (ap suc h.aligned ∙ sym (length_last s.meanings (Extern (length s.externs)))));
-        keyed = λ i n g. keyed h i n (placed_in s.meanings (Extern (length s.externs)) (Extern n) i g);
-        differ = subst (λ ns. all_differ ns ≡ true) (sym e) (differ_push (names_of s.externs) k.name h.differ (is_new s.names (names_of s.externs) k.name (no_place s.names k.name new) h.listed));
-        free = subst (λ ns. list_all is_free ns ≡ true) (sym e) (all_push is_free (names_of s.externs) k.name h.free (ap not free));
-        listed = subst (λ ns. list_all (is_listed (added s.names k.name)) ns ≡ true) (sym e) (subst (λ names. list_all (is_listed names) (names_of s.externs ++ k.name ∷ []) ≡ true) (sym (added_new s.names k.name new)) (all_push (is_listed (s.names ++ k.name ∷ [])) (names_of s.externs) k.name (listed_push s.names (names_of s.externs) k.name h.listed) (any_last (bytes_eq k.name) s.names k.name (same_name k.name))));
-      }
+      aligned = ap (λ (xs : List (List ℕ)). length xs) (added_new s.names k.name new) ∙ (length_last s.names k.name ∙ (ap suc h.aligned ∙ sym (length_last s.meanings (Extern (length s.externs)))));
+      keyed = λ i n g. keyed h i n (placed_in s.meanings (Extern (length s.externs)) (Extern n) i g);
+      differ = subst (λ ns. all_differ ns ≡ true) (sym e) (differ_push (names_of s.externs) k.name h.differ (is_new s.names (names_of s.externs) k.name (no_place s.names k.name new) h.listed));
+      free = subst (λ ns. list_all is_free ns ≡ true) (sym e) (all_push is_free (names_of s.externs) k.name h.free (ap not free));
+      listed = subst (λ ns. list_all (is_listed (added s.names k.name)) ns ≡ true) (sym e) (subst (λ names. list_all (is_listed names) (names_of s.externs ++ k.name ∷ []) ≡ true) (sym (added_new s.names k.name new)) (all_push (is_listed (s.names ++ k.name ∷ [])) (names_of s.externs) k.name (listed_push s.names (names_of s.externs) k.name h.listed) (any_last (bytes_eq k.name) s.names k.name (same_name k.name))));
+    }
 
 -- ---- locals
 
