@@ -1,17 +1,15 @@
 -- Calls: as many arguments as the function has parameters, and at most four to Non-secure functions.
-use Rattle.std.proofs.Common.{◌≡◌, ℕ, zero, suc, ◌+◌, Bool, true, false, ◌&&◌, ◌||◌, ◌==◌, not, cond, eqb, nat_le, List, [], ◌∷◌, ◌++◌, map, length, ap, ap₂, sym, ◌∙◌, subst, refl, arith, Option, None, Some, Ok, Err, eqb-true, eq-eqb, length-append}
+use Rattle.std.proofs.Common.{◌≡◌, ℕ, suc, ◌+◌, Bool, true, false, ◌&&◌, ◌||◌, not, cond, eqb, nat_le, List, [], ◌∷◌, ◌++◌, map, length, ap, sym, ◌∙◌, subst, refl, arith, Option, None, Some, Ok, Err, eqb-true, eq-eqb}
 use Rattle.std.specs.List.{list_all}
 use Rattle.std.proofs.lemmas.List.{length-map, length_push}
 use Rattle.cm_base.specs.declared.place.Place.{Place}
 use Rattle.c_types.specs.declared.arith.Arith.TheVariants as arith
 use Rattle.c_types.specs.declared.ctype.CType.{CType}
-use Rattle.c_types.specs.declared.ctype.Shape.TheVariants as made
 use Rattle.c_types.specs.declared.ctype.Shape.TheOpen as shape
-use Rattle.c_types.specs.Derived.{arith_type, plain, unqualified}
-use Rattle.c_types.specs.Kind.{Look, is_function, is_nonsecure_function, look, looks_function, looks_nonsecure, referenced}
+use Rattle.c_types.specs.Derived.{arith_type, unqualified}
+use Rattle.c_types.specs.Kind.{Look, is_nonsecure_function, look, looks_nonsecure, referenced}
 use Rattle.c_tree.specs.declared.expr.Expr.{Expr}
 use Rattle.c_tree.specs.declared.expr.ExprKind.{ExprKind, out-ExprKind}
-use Rattle.c_tree.specs.declared.expr.ExprKind.TheVariants as kind
 use Rattle.c_tree.specs.declared.expr.ExprKind.TheVariants.{rolls-Call, rolls-NsCall, rolls-NsCaller, rolls-NsCreate, rolls-NsTest, rolls-Range}
 use Rattle.c_tree.specs.declared.expr.ExprKind.TheOpen.{ExprKind-F, Call, Global, NsCall, NsCaller, NsCreate, NsTest, Range}
 use Rattle.c_tree.specs.Numbers.{all_true, expr_in_range, looks_called}
@@ -19,18 +17,18 @@ use Rattle.c_tree.specs.Numbers.{Around as Ranged}
 use Rattle.c_rows.specs.declared.calls.Arg.{Arg}
 use Rattle.c_rows.specs.declared.intrinsics.Intrinsic.{Intrinsic}
 use Rattle.c_rows.specs.declared.intrinsics.Intrinsic.TheVariants.{CheckRange, CheckObject, CreatePointer, IsPointer, Caller}
-use Rattle.c_rows.specs.Answers.{Checked, ◌>>=◌}
-use Rattle.c_rows.specs.Nodes.{int_type, node, size_node, void_pointer}
+use Rattle.c_rows.specs.Answers.{Checked}
+use Rattle.c_rows.specs.Nodes.{int_type, size_node, void_pointer}
 use Rattle.c_rows.specs.Values.{fitted}
 use Rattle.c_rows.specs.Pointers.{step_of}
-use Rattle.c_rows.specs.Calls.{arguments, arguments_as, called, called_as, called_by_pointer, fitted_args, fitted_from, is_secure_function, nonsecure_as, nonsecure_call, nonsecure_target, pointer_as, points_to_nonsecure, result_as, result_of, secure_as, secure_call, secure_number}
-use Rattle.c_rows.specs.Intrinsics.{as_type, caller_of, created, created_of, intrinsic_called, object_as, object_checked, object_of, object_range, range, range_checked, range_of, tested, tested_of}
+use Rattle.c_rows.specs.Calls.{arguments, arguments_as, called, called_as, fitted_args, fitted_from, is_secure_function, nonsecure_as, nonsecure_call, nonsecure_target, pointer_as, points_to_nonsecure, result_as, result_of, secure_as, secure_call, secure_number}
+use Rattle.c_rows.specs.Intrinsics.{as_type, caller_of, created_of, intrinsic_called, object_as, object_of, range, range_of, tested_of}
 use Rattle.range_laws.specs.Few.{all_few, few, few_or}
 use Rattle.range_laws.specs.Fits.{AreArgs, IsArg, IsMade, IsTree, IsValue, kind_fits, names_fit}
 use Rattle.range_laws.specs.Steps.{Answers}
 use Rattle.range_laws.proofs.Both.{all_push, both, left, no, right}
-use Rattle.range_laws.proofs.FewLaws.{few_arith, few_at, few_function_in, few_referenced, few_void, look_few}
-use Rattle.range_laws.proofs.Moves.{answers_cond, answers_then, answers_unless, silent, told}
+use Rattle.range_laws.proofs.FewLaws.{few_arith, few_at, few_referenced, few_void, look_few}
+use Rattle.range_laws.proofs.Moves.{answers_then, answers_unless, silent, told}
 use Rattle.range_laws.proofs.TreeLaws.{const_made, few_int, few_void_pointer, fitted_law, made_of, pointer_no_function, value_of}
 
 not_false : (b : Bool) → not b ≡ false → b ≡ true

@@ -1,6 +1,5 @@
 -- Types that declarations name and derive.
-use Rattle.std.proofs.Common.{◌≡◌, ℕ, zero, suc, ◌≤◌, Bool, true, false, ◌&&◌, ◌||◌, not, cond, nat_le, nat_lt, List, [], ◌∷◌, ◌++◌, map, reverse, length, ap, sym, ◌∙◌, subst, refl, Option, None, Some, Ok, Err, option_map, is_some, rules}
-use Rattle.std.specs.List.{list_all}
+use Rattle.std.proofs.Common.{◌≡◌, ℕ, zero, suc, Bool, true, false, not, List, [], ◌∷◌, ◌++◌, reverse, length, ap, sym, ◌∙◌, refl, Option, None, Some, Ok, Err, option_map, rules}
 use Rattle.std.proofs.lemmas.Bool.{le-leb, ltb-false}
 use Rattle.std.proofs.lemmas.List.{length-map}
 use Rattle.cm_base.specs.declared.place.Place.{Place}
@@ -13,11 +12,11 @@ use Rattle.c_types.specs.declared.ctype.Shape.TheVariants as made
 use Rattle.c_types.specs.declared.ctype.Shape.TheVariants.{rolls-Array, rolls-Pointer}
 use Rattle.c_types.specs.declared.ctype.Shape.TheOpen as shape
 use Rattle.c_types.specs.declared.ctype.Shape.TheOpen.{Shape-F, CType-F}
-use Rattle.c_types.specs.declared.ctype.Shape.TheFolds.{map-Shape, fold-CType, fold-Shape, fold_out-Shape, the_lemmas}
-use Rattle.c_types.specs.Derived.{array_of, arith_type, decayed, function, parameter, plain, pointer_to, qualified}
+use Rattle.c_types.specs.declared.ctype.Shape.TheFolds.{map-Shape, fold-Shape, fold_out-Shape, the_lemmas}
+use Rattle.c_types.specs.Derived.{array_of}
 use Rattle.c_types.specs.Kind.{Look, is_complete, is_function, is_result, is_struct, look, looks_function}
 use Rattle.c_types.specs.Sizes.{fits}
-use Rattle.c_rows.specs.Answers.{Checked, ◌>>=◌}
+use Rattle.c_rows.specs.Answers.{Checked}
 use Rattle.cmse_rules.specs.Pointers.{is_many, marked, marked_behind, marked_function, marked_in, nonsecure_declared, or_fault, reached_params, reshaped, shape_params, steps, type_params}
 use Rattle.c_derive.specs.declared.derivations.Derivation.{Derivation}
 use Rattle.c_derive.specs.declared.derivations.Derivation.TheVariants as by
@@ -25,9 +24,8 @@ use Rattle.c_derive.specs.declared.derivations.Param.{Param}
 use Rattle.c_derive.specs.declared.specifiers.Base.{Base}
 use Rattle.c_derive.specs.declared.specifiers.Base.TheVariants as base
 use Rattle.c_derive.specs.declared.specifiers.Words.{Words}
-use Rattle.c_derive.specs.declared.specifiers.Storage.{Storage}
-use Rattle.c_derive.specs.Derivations.{array_type, derivations, derive, derived, function_type, if_by_value, if_fits, if_object, param_types, pointer_part, pointer_parts}
-use Rattle.c_derive.specs.Specifiers.{char_of, if_goes, is_bare, named, one_of, specified, with_base, with_long, with_qualifiers, with_sign, with_storage, with_type, with_word}
+use Rattle.c_derive.specs.Derivations.{array_type, derivations, derive, derived, function_type, param_types, pointer_part, pointer_parts}
+use Rattle.c_derive.specs.Specifiers.{if_goes, is_bare, named, specified, with_long, with_qualifiers, with_type, with_word}
 use Rattle.range_laws.specs.Few.{all_few, base_few, derivation_few, derivations_few, few, few_or, params_few, words_few}
 use Rattle.range_laws.specs.Steps.{Answers, IsFew}
 use Rattle.range_laws.proofs.Both.{all_append, all_reversed, both, left, no, right}

@@ -9,5 +9,6 @@ pub mod RefreshLaws
 pub mod LookupLaws
 pub mod SameLaws
 pub mod TableLaws
+pub mod StoodLaws
 pub mod DeriveLaws
 pub mod HeaderLaws

@@ -1,5 +1,5 @@
 -- What names mean is in range.
-use Rattle.std.proofs.Common.{◌≡◌, ℕ, ◌<◌, Bool, true, false, not, cond, nat_lt, is_some, eqb, List, [], ◌∷◌, map, length, ap, sym, ◌∙◌, subst, refl, Option, None, Some, Ok, slice_get, option_map, eq-eqb}
+use Rattle.std.proofs.Common.{◌≡◌, ℕ, Bool, true, false, not, eqb, List, length, ap, ◌∙◌, subst, refl, Option, None, Some, Ok, slice_get, option_map, eq-eqb}
 use Rattle.std.specs.List.{list_all}
 use Rattle.std.proofs.lemmas.Bool.{lt-ltb}
 use Rattle.std.proofs.lemmas.Option.{slice_get-map, slice_get_within}
@@ -8,14 +8,11 @@ use Rattle.c_ast.specs.declared.expr.Name.{Name}
 use Rattle.c_types.specs.declared.ctype.CType.{CType}
 use Rattle.c_types.specs.declared.ctype.Shape.TheOpen as shape
 use Rattle.c_types.specs.Kind.{Look, is_function, look, looks_function}
-use Rattle.c_tree.specs.declared.expr.Expr.{Expr}
-use Rattle.c_tree.specs.declared.expr.ExprKind.{out-ExprKind}
 use Rattle.c_tree.specs.declared.expr.ExprKind.TheVariants as kind
 use Rattle.c_tree.specs.declared.expr.ExprKind.TheVariants.{rolls-Global, rolls-Local}
 use Rattle.c_tree.specs.declared.expr.ExprKind.TheOpen.{Global, Local}
 use Rattle.c_tree.specs.declared.program.TLocal.{TLocal}
 use Rattle.c_tree.specs.Numbers.{is_called, is_object, looks_called}
-use Rattle.c_rows.specs.Answers.{Checked}
 use Rattle.c_rows.specs.Nodes.{int_type, node, void_pointer}
 use Rattle.c_scope.specs.declared.layout.Found.{Found}
 use Rattle.c_scope.specs.declared.tables.Known.{Known}

@@ -1,5 +1,5 @@
 -- A type as it stands now is as few, and looks alike to a call.
-use Rattle.std.proofs.Common.{◌≡◌, ℕ, Bool, true, false, ◌&&◌, ◌||◌, not, nat_le, List, [], ◌∷◌, map, length, ap, ap₂, sym, ◌∙◌, subst, refl, Option, None, Some, slice_get, rules}
+use Rattle.std.proofs.Common.{◌≡◌, ℕ, true, ◌&&◌, ◌||◌, not, nat_le, List, [], ◌∷◌, map, length, ap, ap₂, sym, ◌∙◌, subst, refl, Option, None, Some, slice_get, rules}
 use Rattle.std.proofs.lemmas.List.{length-map}
 use Rattle.c_types.specs.declared.ctype.CType.{CType, roll-CType}
 use Rattle.c_types.specs.declared.ctype.Shape.{Shape, out-Shape, roll-Shape}
@@ -7,14 +7,14 @@ use Rattle.c_types.specs.declared.ctype.Shape.TheVariants as made
 use Rattle.c_types.specs.declared.ctype.Shape.TheVariants.{rolls-Void, rolls-Arith, rolls-Pointer, rolls-Array, rolls-Struct, rolls-Function}
 use Rattle.c_types.specs.declared.ctype.Shape.TheOpen as shape
 use Rattle.c_types.specs.declared.ctype.Shape.TheOpen.{Shape-F, CType-F}
-use Rattle.c_types.specs.declared.ctype.Shape.TheFolds.{map-Shape, map-CType, fold-CType, fold-Shape, fold-roll-Shape, fold-roll-CType, fold_out-Shape, ind-CType, the_lemmas}
-use Rattle.c_types.specs.Kind.{Look, is_function, look, looks_function}
+use Rattle.c_types.specs.declared.ctype.Shape.TheFolds.{map-Shape, map-CType, fold-roll-Shape, fold_out-Shape, ind-CType, the_lemmas}
+use Rattle.c_types.specs.Kind.{Look, look}
 use Rattle.c_tree.specs.Numbers.{Around as Ranged}
 use Rattle.c_scope.specs.declared.tables.StructInfo.{StructInfo}
 use Rattle.c_scope.specs.Refresh.{refreshed, refreshed_shape, shape_now, struct_now, type_now}
 use Rattle.range_laws.specs.Few.{all_few, few, few_in}
 use Rattle.range_laws.specs.Fits.{names_fit}
-use Rattle.range_laws.proofs.FewLaws.{few_array, few_function, few_function_in, few_pointer, few_struct, fold_few, look_few, looked, shape_out_is}
+use Rattle.range_laws.proofs.FewLaws.{few_array, few_function, few_pointer, few_struct, fold_few, look_few, looked, shape_out_is}
 
 module _ (structs : List StructInfo) where
   abbrev now : CType → CType

@@ -1,12 +1,12 @@
 -- Operators on operands whose numbers are in range.
-use Rattle.std.proofs.Common.{◌≡◌, ℕ, Bool, true, false, ◌&&◌, ◌||◌, not, cond, List, [], ◌∷◌, map, length, ap, sym, ◌∙◌, subst, refl, Option, None, Some, Ok}
+use Rattle.std.proofs.Common.{◌≡◌, ℕ, Bool, true, false, ◌&&◌, not, cond, sym, ◌∙◌, refl, Option, None, Some}
 use Rattle.cm_base.specs.declared.place.Place.{Place}
 use Rattle.ns_types.specs.Operators.{negate}
-use Rattle.c_types.specs.Arithmetic.{common, promoted}
+use Rattle.c_types.specs.Arithmetic.{promoted}
 use Rattle.c_types.specs.declared.arith.Arith.{Arith}
 use Rattle.c_types.specs.declared.arith.Arith.TheVariants as arith
 use Rattle.c_types.specs.declared.ctype.CType.{CType}
-use Rattle.c_types.specs.Derived.{arith_type, pointer_to, qualified, unqualified}
+use Rattle.c_types.specs.Derived.{arith_type, unqualified}
 use Rattle.c_types.specs.Kind.{arithmetic, is_arithmetic, is_array, is_function, is_struct, look, referenced}
 use Rattle.c_tree.specs.declared.expr.BinOp.{BinOp}
 use Rattle.c_tree.specs.declared.expr.BinOp.TheVariants as bin
@@ -16,20 +16,19 @@ use Rattle.c_tree.specs.declared.expr.Expr.{Expr}
 use Rattle.c_tree.specs.declared.expr.ExprKind.TheVariants as kind
 use Rattle.c_tree.specs.declared.expr.ExprKind.TheVariants.{rolls-Addr, rolls-And, rolls-Assign, rolls-AssignOp, rolls-Binary, rolls-Comma, rolls-Cond, rolls-Convert, rolls-Deref, rolls-Member, rolls-Or, rolls-PtrAdd, rolls-PtrDiff, rolls-Step, rolls-Unary}
 use Rattle.c_tree.specs.declared.expr.ExprKind.TheOpen.{Addr, And, Assign, AssignOp, Binary, Comma, Cond, Convert, Deref, Member, Or, PtrAdd, PtrDiff, Step, Unary}
-use Rattle.c_tree.specs.Numbers.{expr_in_range}
 use Rattle.c_tree.specs.Numbers.{Around as Ranged}
-use Rattle.c_rows.specs.Nodes.{int_type, node, size_node}
-use Rattle.c_rows.specs.Values.{converted_to, fitted, in_kind, valued}
+use Rattle.c_rows.specs.Nodes.{int_type, node}
+use Rattle.c_rows.specs.Values.{converted_to, fitted, in_kind}
 use Rattle.c_rows.specs.Arithmetic.{arith_pair, binary, binary_as, common_of, joined, negated, shifted, shifted_as, unary, unary_as}
-use Rattle.c_rows.specs.Pointers.{added, apart, apart_as, dereferenced, dereferenced_as, element, moved, moved_as, moved_back, moved_back_as, moved_on, step_of, subtracted, target}
+use Rattle.c_rows.specs.Pointers.{added, apart_as, dereferenced, dereferenced_as, element, moved, moved_as, moved_back_as, step_of, subtracted}
 use Rattle.c_rows.specs.Compare.{compared, equated, equated_as, first_converted, null_beside, one_pointer_type, ordered, ordered_as, pointers_equated, second_converted, void_beside}
-use Rattle.c_rows.specs.Logic.{arms_as_first, arms_as_second, arms_chosen, arms_in_kind, both_or_either, chosen, chosen_as, in_order, is_first_type}
+use Rattle.c_rows.specs.Logic.{arms_chosen, both_or_either, chosen, chosen_as, in_order, is_first_type}
 use Rattle.c_rows.specs.Access.{address, cast, is_place, member, size_of, sized_as}
-use Rattle.c_rows.specs.Assign.{assigned, assigned_by, both_structs, changed, changed_as, fit_and_stored, is_writable, right_kind, right_operand, signed_unit, stepped, stepped_as, stored, unit_of, written}
+use Rattle.c_rows.specs.Assign.{assigned, assigned_by, both_structs, changed, changed_as, is_writable, right_kind, right_operand, signed_unit, stepped, stepped_as, stored, unit_of, written}
 use Rattle.range_laws.specs.Few.{few, few_or}
 use Rattle.range_laws.specs.Fits.{IsMade, IsTree, IsValue}
 use Rattle.range_laws.specs.Steps.{Answers}
-use Rattle.range_laws.proofs.Both.{both, left, no, right}
+use Rattle.range_laws.proofs.Both.{both, no, right}
 use Rattle.range_laws.proofs.FewLaws.{few_arith, few_pointer, few_qualified, few_referenced}
 use Rattle.range_laws.proofs.Moves.{answers_cond, answers_then, answers_unless, silent, told}
 use Rattle.range_laws.proofs.TreeLaws.{const_made, converted_law, few_int, fitted_law, in_kind_law, made_of, struct_no_function, value_of, valued_law}

@@ -1,5 +1,5 @@
 -- Trees that are made of others, and trees as values.
-use Rattle.std.proofs.Common.{◌≡◌, ℕ, Bool, true, false, ◌&&◌, ◌||◌, not, cond, List, [], ◌∷◌, map, length, ap, sym, ◌∙◌, subst, refl, Option, None, Some, Ok, rules}
+use Rattle.std.proofs.Common.{◌≡◌, ℕ, Bool, true, false, ◌||◌, cond, length, ap, sym, ◌∙◌, subst, refl, Option, None, Some, Ok, rules}
 use Rattle.cm_base.specs.declared.place.Place.{Place}
 use Rattle.c_types.specs.declared.arith.Arith.{Arith}
 use Rattle.c_types.specs.declared.arith.Arith.TheVariants as arith
@@ -7,25 +7,25 @@ use Rattle.c_types.specs.declared.ctype.CType.{CType}
 use Rattle.c_types.specs.declared.ctype.Shape.TheOpen as shape
 use Rattle.c_types.specs.declared.ctype.Shape.TheVariants as made
 use Rattle.c_types.specs.Derived.{arith_type, plain, pointer_to, unqualified}
-use Rattle.c_types.specs.Kind.{Look, element, element_of, is_array, is_function, is_pointer, is_struct, look, looks_function, looks_struct, referenced, referenced_by}
+use Rattle.c_types.specs.Kind.{Look, element, element_of, is_function, is_struct, look, looks_function, looks_struct, referenced_by}
 use Rattle.c_types.specs.Same.{same_unqualified}
-use Rattle.c_tree.specs.declared.expr.Expr.{Expr, roll-Expr}
+use Rattle.c_tree.specs.declared.expr.Expr.{Expr}
 use Rattle.c_tree.specs.declared.expr.ExprKind.{ExprKind, out-ExprKind, roll-ExprKind}
 use Rattle.c_tree.specs.declared.expr.ExprKind.TheVariants as kind
 use Rattle.c_tree.specs.declared.expr.ExprKind.TheVariants.{rolls-Addr, rolls-Const, rolls-Convert}
-use Rattle.c_tree.specs.declared.expr.ExprKind.TheOpen.{ExprKind-F, Expr-F, Const, Local, Global, Deref, Member, Addr, Convert, Unary, Binary, PtrAdd, PtrDiff, And, Or, Cond, Assign, AssignOp, Step, Comma, Call, NsCall, Range, NsCreate, NsTest, NsCaller}
-use Rattle.c_tree.specs.declared.expr.ExprKind.TheFolds.{map-ExprKind, map-Expr, fold-ExprKind, fold-roll-ExprKind, fold-roll-Expr, the_lemmas}
+use Rattle.c_tree.specs.declared.expr.ExprKind.TheOpen.{ExprKind-F, Const, Global, Addr, Convert}
+use Rattle.c_tree.specs.declared.expr.ExprKind.TheFolds.{map-ExprKind, fold-ExprKind, fold-roll-ExprKind, fold-roll-Expr, the_lemmas}
 use Rattle.c_tree.specs.Numbers.{expr_in_range, expr_step, kind_step}
 use Rattle.c_tree.specs.Numbers.{Around as Ranged}
 use Rattle.c_rows.specs.Nodes.{int_type, node, void_pointer}
-use Rattle.c_rows.specs.Values.{converted_to, first_element, fitted, in_kind, value_itself, valued, valued_as}
+use Rattle.c_rows.specs.Values.{converted_to, first_element, fitted, in_kind, valued, valued_as}
 use Rattle.range_laws.specs.Few.{few, few_or}
 use Rattle.range_laws.specs.Fits.{IsMade, IsTree, IsValue, kind_fits, names_fit}
 use Rattle.range_laws.specs.Ranges.{IsWithin}
 use Rattle.range_laws.specs.Steps.{Answers}
-use Rattle.range_laws.proofs.Both.{is_or_not, left, no, right}
+use Rattle.range_laws.proofs.Both.{no}
 use Rattle.range_laws.proofs.FewLaws.{few_arith, few_element, few_pointer, few_void}
-use Rattle.range_laws.proofs.Moves.{answers_more, answers_unless, silent, told}
+use Rattle.range_laws.proofs.Moves.{answers_more, answers_unless, told}
 use Rattle.range_laws.proofs.Wider.{expr_wider}
 
 or_false_left : (x y : Bool) → (x || y) ≡ false → x ≡ false

@@ -1,5 +1,5 @@
 -- What is in range stays in range where there are more numbers.
-use Rattle.std.proofs.Common.{◌≡◌, ℕ, ◌+◌, Bool, true, false, ◌&&◌, nat_le, nat_lt, List, [], ◌∷◌, map, length, ap, sym, ◌∙◌, subst, refl, Option, None, Some, arith}
+use Rattle.std.proofs.Common.{◌≡◌, ℕ, ◌+◌, Bool, true, ◌&&◌, nat_le, nat_lt, List, [], ◌∷◌, map, length, sym, ◌∙◌, subst, refl, Option, None, Some, arith}
 use Rattle.std.proofs.lemmas.List.{length-map}
 use Rattle.std.proofs.lemmas.Bool.{lt-ltb, ltb-true}
 use Rattle.c_tree.specs.declared.expr.Expr.{Expr, roll-Expr}
@@ -13,7 +13,7 @@ use Rattle.c_tree.specs.declared.stmt.Part.{Part, roll-Part}
 use Rattle.c_tree.specs.declared.stmt.Part.TheOpen as s
 use Rattle.c_tree.specs.declared.stmt.Part.TheOpen.{Stmt-F, Part-F}
 use Rattle.c_tree.specs.declared.stmt.Part.TheFolds.{map-Stmt, map-Part, fold-Part, fold-roll-Stmt, fold-roll-Part, ind-Part, ind-Stmt}
-use Rattle.c_tree.specs.Numbers.{Names, all_true, expr_in_range, expr_step, function_in_range, in_range_or, items_in_range, kind_step, or_true, part_step, stmt_in_range, stmt_step}
+use Rattle.c_tree.specs.Numbers.{Names, all_true, expr_in_range, expr_step, function_in_range, in_range_or, items_in_range, kind_step, part_step, stmt_in_range, stmt_step}
 use Rattle.c_tree.specs.Numbers.{Around as Ranged}
 use Rattle.range_laws.specs.Ranges.{IsWithin, NamesWithin}
 use Rattle.range_laws.proofs.Both.{both, left, right}

@@ -1,4 +1,5 @@
 pub mod Ranges
 pub mod Few
 pub mod Fits
+pub mod Stood
 pub mod Steps

@@ -5,6 +5,7 @@ use Rattle.c_tree.specs.Numbers.{Names, names_of_unit}
 use Rattle.c_tree.specs.Numbers.{Around as Range}
 use Rattle.c_scope.specs.declared.tables.Known.{Known}
 use Rattle.c_scope.specs.declared.tables.Tables.{Tables}
+use Rattle.later_laws.specs.Later.{Kept, Later}
 
 -- a function or a global as a unit lists it
 abbrev pub extern_of : Known → Extern
@@ -31,7 +32,12 @@ pub record IsWithin (a b : Range) : Type 0 where
   pub locals : a.locals ≤ b.locals
   pub entry : a.entry ≡ true → b.entry ≡ true
 
--- What declarations do in a function: the externs and the locals of s are there in t too.
+-- What declarations do in a function: the locals of s are there in t too, and what is declared before it is as it was.
 pub record Grows (s t : Tables) : Type 0 where
-  pub externs : NamesWithin (names s) (names t)
   pub locals : length s.locals ≤ length t.locals
+  pub kept : Kept s t
+
+-- What they do at file scope: the functions and globals of s are there in t too.
+pub record Follows (s t : Tables) : Type 0 where
+  pub names : NamesWithin (names s) (names t)
+  pub later : Later s t

@@ -4,7 +4,7 @@ use Rattle.c_types.specs.declared.ctype.CType.{CType}
 use Rattle.c_scope.specs.declared.tables.Layout.{Layout}
 use Rattle.c_scope.specs.declared.tables.Tables.{Tables}
 use Rattle.c_rows.specs.Answers.{Checked}
-use Rattle.range_laws.specs.Ranges.{Grows, names}
+use Rattle.range_laws.specs.Ranges.{Follows, Grows, names}
 use Rattle.range_laws.specs.Few.{IsFit, few, members_few}
 
 abbrev pub answered : {A : Type 0} → (A → Type 0) → Checked A → Type 0
@@ -29,9 +29,27 @@ went Q s (Err e) = Unit {0}
 pub record Goes {A : Type 0} (Q : A → Tables → Type 0) (s : Tables) (r : Checked (A × Tables)) : Type 0 where
   pub it : went Q s r
 
+-- at file scope, from the tables s to the tables t
+pub record Passed {A : Type 0} (Q : A → Tables → Type 0) (s : Tables) (x : A) (t : Tables) : Type 0 where
+  pub follows : Follows s t
+  pub fit : IsFit t
+  pub holds : Q x t
+
+abbrev pub passed : {A : Type 0} → (A → Tables → Type 0) → Tables → Checked (A × Tables) → Type 0
+passed Q s (Ok p) = Passed Q s p.0 p.1
+passed Q s (Err e) = Unit {0}
+
+-- the same of a step at file scope
+pub record Passes {A : Type 0} (Q : A → Tables → Type 0) (s : Tables) (r : Checked (A × Tables)) : Type 0 where
+  pub it : passed Q s r
+
 -- what a function of tables leaves
 pub record Leads (s t : Tables) : Type 0 where
   pub grows : Grows s t
+  pub fit : IsFit t
+
+pub record Brings (s t : Tables) : Type 0 where
+  pub follows : Follows s t
   pub fit : IsFit t
 
 -- ---- what holds of answers

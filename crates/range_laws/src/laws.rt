@@ -6,6 +6,7 @@ ghost use Rattle.c_ast.specs.declared.expr.Name.{Name};
 ghost use Rattle.c_lex.specs.declared.token.Header.{Header};
 ghost use Rattle.c_types.specs.declared.ctype.CType.{CType};
 ghost use Rattle.c_types.specs.Kind.{is_function};
+ghost use Rattle.c_types.specs.Sizes.{fits};
 ghost use Rattle.c_tree.specs.declared.expr.BinOp.{BinOp};
 ghost use Rattle.c_tree.specs.declared.expr.UnOp.{UnOp};
 ghost use Rattle.c_tree.specs.declared.expr.Expr.{Expr};
@@ -39,10 +40,12 @@ ghost use Rattle.c_scope.specs.Headers.{include};
 ghost use Rattle.c_scope.specs.Layout as layout;
 ghost use Rattle.c_scope.specs.Lookup as lookup;
 ghost use Rattle.c_scope.specs.Tags as tags;
+ghost use Rattle.later_laws.specs.Later.{AreSound};
 ghost use Rattle.range_laws.specs.Few.{IsFit, derivations_few, few, members_few, words_few};
 ghost use Rattle.range_laws.specs.Fits.{AreArgs, IsMade, IsTree, IsValue};
 ghost use Rattle.range_laws.specs.Ranges.{Grows, IsWithin, NamesWithin, range};
-ghost use Rattle.range_laws.specs.Steps.{Answers, Anything, Goes, HasFew, IsFew, IsLocal, IsObjectAt, Leads, TypeIsFew};
+ghost use Rattle.range_laws.specs.Steps.{Answers, Anything, Brings, Goes, HasFew, IsFew, IsLocal, IsObjectAt, Leads, Passes, TypeIsFew};
+ghost use Rattle.range_laws.specs.Stood.{IsDeclared, IsDeclaredObject};
 
 /// What is in range stays in range where there are more numbers.
 pub fn wider_law()
@@ -103,7 +106,7 @@ pub fn few_law()
 pub fn block_law()
     ensures locals { (scope : Scope) (name : Name) (t : CType) (initialised : Bool) (s : Tables) → IsFit s → few t ≡ true → Goes IsLocal s (blocks.declare_local scope name t initialised s) }
     ensures parameters { (scope : Scope) (name : Option Name) (t : CType) (first : Place) (s : Tables) → IsFit s → few t ≡ true → Goes Anything s (blocks.declare_parameter scope name t first s) }
-    ensures completed { (n : ℕ) (t : CType) (s : Tables) → IsFit s → few t ≡ true → Leads s (blocks.complete_local n t s) }
+    ensures completed { (n : ℕ) (t : CType) (s : Tables) → IsFit s → few t ≡ true → fits t ≡ true → Leads s (blocks.complete_local n t s) }
     ensures closed { (scope : Scope) (s : Tables) → IsFit s → Leads s (blocks.close_block scope s) }
     ensures lists { (outer : Scope) (s t : Tables) → Grows s t → IsFit t → Leads s (blocks.close_parameters (blocks.open_parameters outer s) t) }
 {}
@@ -122,14 +125,21 @@ pub fn tag_law()
 pub fn file_law()
     ensures typedefs { (name : Name) (t : CType) (s : Tables) → IsFit s → few t ≡ true → Goes Anything s (file_scope.declare_typedef name t s) }
     ensures constants { (name : Name) (n : ℕ) (s : Tables) → IsFit s → Goes Anything s (file_scope.declare_constant name n s) }
-    ensures objects { (name : Name) (t : CType) (how : Linkage) (initialised : Bool) (s : Tables) → IsFit s → few t ≡ true → is_function t ≡ false → Goes IsObjectAt s (file_scope.declare_object name t how initialised s) }
-    ensures functions { (name : Name) (t : CType) (how : Linkage) (s : Tables) → IsFit s → few t ≡ true → Goes Anything s (file_scope.declare_function name t how s) }
-    ensures defined { (n : ℕ) (s : Tables) → IsFit s → Leads s (file_scope.define_function n s) }
-    ensures completed { (n : ℕ) (t : CType) (s : Tables) → IsFit s → few t ≡ true → is_function t ≡ false → IsObjectAt n s → Leads s (file_scope.complete_object n t s) }
+    ensures objects { (name : Name) (t : CType) (how : Linkage) (initialised : Bool) (s : Tables) → IsFit s → few t ≡ true → is_function t ≡ false → Passes IsObjectAt s (file_scope.declare_object name t how initialised s) }
+    ensures functions { (name : Name) (t : CType) (how : Linkage) (s : Tables) → IsFit s → few t ≡ true → Passes Anything s (file_scope.declare_function name t how s) }
+    ensures defined { (n : ℕ) (s : Tables) → IsFit s → Brings s (file_scope.define_function n s) }
+    ensures completed { (n : ℕ) (t : CType) (s : Tables) → IsFit s → few t ≡ true → is_function t ≡ false → IsObjectAt n s → Brings s (file_scope.complete_object n t s) }
+{}
+
+/// A function or a global that is declared stands under its number with its name and its type. A global is complete unless the
+/// declaration is extern or its initialiser gives its length.
+pub fn stood_law()
+    ensures objects { (name : Name) (t : CType) (how : Linkage) (initialised : Bool) (s : Tables) → AreSound s → Answers (λ p. IsDeclaredObject name t how initialised p.0 p.1) (file_scope.declare_object name t how initialised s) }
+    ensures functions { (name : Name) (t : CType) (how : Linkage) (s : Tables) → AreSound s → Answers (λ p. IsDeclared name t p.0 p.1) (file_scope.declare_function name t how s) }
 {}
 
 /// A unit begins with fit tables, and headers only add names.
 pub fn header_law()
-    ensures start { IsFit lookup.nothing }
+    ensures start { IsFit lookup.nothing × AreSound lookup.nothing }
     ensures headers { (h : Header) (place : Place) (s : Tables) → IsFit s → Goes Anything s (include h place s) }
 {}

@@ -1,5 +1,5 @@
 -- Statements, blocks and bodies keep what stands before them in range.
-use Rattle.std.proofs.Common.{◌≡◌, ℕ, ◌&&◌, ◌||◌, Bool, true, false, not, cond, List, [], ◌∷◌, ◌++◌, map, length, ap, sym, ◌∙◌, subst, refl, Option, None, Some, option_map, Ok, Err}
+use Rattle.std.proofs.Common.{◌≡◌, ℕ, ◌&&◌, ◌||◌, Bool, true, false, not, List, [], ◌∷◌, ◌++◌, map, ap, sym, ◌∙◌, subst, refl, Option, None, Some, Ok, Err}
 use Rattle.std.specs.List.{list_all}
 use Rattle.cm_base.specs.declared.place.Place.{Place}
 use Rattle.c_ast.specs.Places.{first_place}
@@ -16,7 +16,7 @@ use Rattle.c_ast.specs.declared.stmt.Item.{Item, roll-Item}
 use Rattle.c_ast.specs.declared.stmt.Part.{Part, roll-Part}
 use Rattle.c_ast.specs.declared.stmt.Item.TheOpen as t
 use Rattle.c_ast.specs.declared.stmt.Item.TheOpen.{Item-F, Part-F, Stmt-F, Block-F}
-use Rattle.c_ast.specs.declared.stmt.Item.TheFolds.{map-Item, map-Part, map-Stmt, map-Block, fold-roll-Item, fold-roll-Part, fold-roll-Stmt, fold-roll-Block, ind-Stmt, ind-Block}
+use Rattle.c_ast.specs.declared.stmt.Item.TheFolds.{map-Item, map-Part, map-Stmt, map-Block, fold-roll-Item, fold-roll-Part, fold-roll-Stmt, fold-roll-Block, ind-Block}
 use Rattle.c_types.specs.declared.arith.Arith.{Arith}
 use Rattle.c_types.specs.declared.ctype.CType.{CType}
 use Rattle.c_types.specs.Kind.{is_void}
@@ -35,29 +35,27 @@ use Rattle.c_tree.specs.Numbers as numbers
 use Rattle.c_tree.specs.Numbers.{Around as Range}
 use Rattle.c_rows.specs.Answers.{Checked, ◌>>=◌}
 use Rattle.c_rows.specs.Constants.{integer_constant}
-use Rattle.c_rows.specs.Logic.{switch_as, switch_value, test}
-use Rattle.c_rows.specs.Values.{fitted, in_kind}
+use Rattle.c_rows.specs.Logic.{switch_as, test}
+use Rattle.c_rows.specs.Values.{fitted}
 use Rattle.c_scope.specs.declared.tables.Tables.{Tables}
-use Rattle.c_scope.specs.Steps.{◌>>>◌, keeping, refuse}
 use Rattle.c_check.specs.declared.around.Around.{Around}
 use Rattle.c_check.specs.Typed.{value}
-use Rattle.c_decl.specs.Locals.{local_declaration}
 use Rattle.c_body.specs.declared.arms.Arms.{Arms}
 use Rattle.c_body.specs.declared.simple.Head.{Head}
 use Rattle.c_body.specs.declared.within.Within.{Within}
 use Rattle.c_body.specs.Arms.{cased, defaulted, has, no_arms, with_case, with_default, with_stmt, with_stmts}
-use Rattle.c_body.specs.Simple.{begun, broken, continued, declared, done, given, headed, jumped, labelled, returned, switched, tested, tested_or, valued_or}
+use Rattle.c_body.specs.Simple.{begun, declared, done, given, headed, jumped, labelled, returned, switched, tested, tested_or, valued_or}
 use Rattle.c_body.specs.Stmts.{Adding, Choosing, Listing, Typing, adding, block_step, body, choosing, else_typed, for_of, item_step, items_from, listed, part_step, parts_from, stmt_step, switch_of, typed}
 use Rattle.c_body.specs.Within.{closed, looping, opened, outermost, switching}
 use Rattle.range_laws.specs.Few.{IsFit}
-use Rattle.range_laws.specs.Fits.{IsMade, IsValue}
+use Rattle.range_laws.specs.Fits.{IsMade}
 use Rattle.range_laws.specs.Ranges.{Grows, range}
-use Rattle.range_laws.specs.Steps.{Answers, Came, Goes, Leads}
+use Rattle.range_laws.specs.Steps.{Answers, Goes}
 use Rattle.range_laws.proofs.Both.{all_append, all_push, both, left, right}
-use Rattle.range_laws.proofs.Moves.{answers_then, answers_unless, behind, comes, goes_then, goes_unless, grows_same, grows_trans, keeps, silent, stays, stops, then_goes, told, within}
+use Rattle.range_laws.proofs.Moves.{answers_then, answers_unless, comes, goes_then, goes_unless, grows_trans, keeps, silent, stays, told, within}
 use Rattle.range_laws.proofs.TableLaws.{close_block_law}
 use Rattle.range_laws.proofs.TreeLaws.{fitted_numbers, in_kind_law}
-use Rattle.range_laws.proofs.Wider.{expr_wider, or_wider, part_wider, stmt_wider}
+use Rattle.range_laws.proofs.Wider.{expr_wider, or_wider, part_wider}
 use Rattle.check_laws.proofs.Layers.{value_walk}
 use Rattle.unit_laws.specs.Stmts.{StmtAt, StmtsAt}
 use Rattle.unit_laws.proofs.DeclLaws.{later_stmt, later_stmts, local_declaration_keeps}

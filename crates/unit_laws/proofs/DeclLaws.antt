@@ -1,5 +1,5 @@
 -- Declarations keep what stands before them in range.
-use Rattle.std.proofs.Common.{◌≡◌, ℕ, ◌<◌, ◌&&◌, Bool, true, false, not, cond, eqb, is_some, List, [], ◌∷◌, ◌++◌, map, length, ap, sym, ◌∙◌, subst, refl, Option, None, Some, Ok, Err, arith}
+use Rattle.std.proofs.Common.{◌≡◌, ℕ, ◌<◌, Bool, true, false, eqb, is_some, List, [], ◌∷◌, ◌++◌, length, ap, sym, ◌∙◌, refl, Option, None, Some, Ok, Err, arith}
 use Rattle.std.specs.List.{list_all}
 use Rattle.std.proofs.lemmas.Bool.{lt-ltb}
 use Rattle.cm_base.specs.declared.place.Place.{Place}
@@ -12,7 +12,6 @@ use Rattle.c_ast.specs.declared.stmt.Init.{Init}
 use Rattle.c_ast.specs.declared.stmt.Initial.{Initial}
 use Rattle.c_types.specs.declared.ctype.CType.{CType}
 use Rattle.c_types.specs.Kind.{is_function}
-use Rattle.c_tree.specs.declared.program.TGlobal.{TGlobal}
 use Rattle.c_tree.specs.declared.stmt.Item.{Item}
 use Rattle.c_tree.specs.declared.stmt.Stmt.{Stmt}
 use Rattle.c_tree.specs.declared.stmt.Stmt.TheVariants as stmt
@@ -23,42 +22,36 @@ use Rattle.c_tree.specs.Numbers.{items_in_range, part_step, stmt_in_range, stmt_
 use Rattle.c_tree.specs.Numbers.{Around as Range}
 use Rattle.c_rows.specs.Answers.{Checked, ◌>>=◌}
 use Rattle.cmse_rules.specs.declared.attributes.Attributes.{Attributes}
-use Rattle.cmse_rules.specs.declared.attributes.Subject.{Subject}
-use Rattle.cmse_rules.specs.declared.attributes.Subject.TheVariants.{Function, Global, Other}
-use Rattle.cmse_rules.specs.Attributes.{attributes, misplaced}
+use Rattle.cmse_rules.specs.declared.attributes.Subject.TheVariants.{Other}
+use Rattle.cmse_rules.specs.Attributes.{attributes}
 use Rattle.c_derive.specs.Derivations.{derived}
-use Rattle.c_scope.specs.declared.tables.Linkage.{Linkage}
 use Rattle.c_scope.specs.declared.tables.Tables.{Tables}
 use Rattle.c_scope.specs.Blocks.{complete_local, declare_local}
-use Rattle.c_scope.specs.FileScope.{complete_object, declare_function, declare_object, declare_typedef}
-use Rattle.c_scope.specs.Steps.{◌>>>◌, keeping, refuse}
+use Rattle.c_scope.specs.Steps.{keeping}
 use Rattle.c_scope.specs.Tags.{declare_struct}
 use Rattle.c_check.specs.declared.around.Around.{Around}
 use Rattle.c_check.specs.declared.formed.Formed.{Formed}
 use Rattle.c_check.specs.declared.specified.Specified.{Specified}
-use Rattle.c_check.specs.Formed.{attributed, nonsecure_if}
-use Rattle.c_check.specs.Specified.{base_of, none_yet, start_of}
-use Rattle.c_check.specs.Typed.{forming, specifiers, specifying}
-use Rattle.c_init.specs.declared.initial.Initialised.{Initialised}
+use Rattle.c_check.specs.Formed.{attributed}
+use Rattle.c_check.specs.Specified.{base_of, start_of}
+use Rattle.c_check.specs.Typed.{forming, specifiers}
 use Rattle.c_init.specs.Initials.{initialise}
 use Rattle.c_decl.specs.declared.headings.Declared.{Declared}
 use Rattle.c_decl.specs.declared.headings.Heading.{Heading}
-use Rattle.c_decl.specs.Headings.{as_heading, bare, bare_as, declared_as, declared_by, declared_type, declares, heading_of, if_inline, is_typedef, linkage, lone_tag}
-use Rattle.c_decl.specs.Locals.{local_declaration, local_declared, local_init, local_inits, local_made, local_value, locals_of}
-use Rattle.c_decl.specs.Globals.{at_file, file_declaration, file_declared, file_init, file_inits, function_declared, global_made, global_value, globals_of, object_declared, typedef_declared}
+use Rattle.c_decl.specs.Headings.{as_heading, bare, bare_as, declared_as, declared_by, declared_type, declares, heading_of, if_inline, is_typedef, lone_tag}
+use Rattle.c_decl.specs.Locals.{local_declaration, local_declared, local_init, local_inits, local_made, local_value}
 use Rattle.range_laws.specs.Few.{IsFit, derivations_few, few, words_few}
 use Rattle.range_laws.specs.Ranges.{Grows, range}
-use Rattle.range_laws.specs.Steps.{Answers, Anything, Came, Goes, IsFew, IsLocal, IsObjectAt, Leads}
+use Rattle.range_laws.specs.Steps.{Answers, Anything, Goes, IsFew}
 use Rattle.range_laws.proofs.Both.{all_push, both, left, right}
-use Rattle.range_laws.proofs.DeriveLaws.{IsObject, derived_law, nonsecure_object, specified_law}
-use Rattle.range_laws.proofs.Moves.{answers_cond, answers_then, answers_unless, comes, goes_cond, goes_then, goes_unless, grows_trans, keeps, silent, stays, stops, then_goes, told, within}
-use Rattle.range_laws.proofs.TableLaws.{complete_local_law, complete_object_law, declare_struct_law, function_law, local_law, object_law, typedef_law}
+use Rattle.range_laws.proofs.DeriveLaws.{derived_law, specified_law}
+use Rattle.range_laws.proofs.Moves.{answers_cond, answers_then, comes, goes_cond, goes_then, goes_unless, keeps, silent, stays, then_goes, told, within}
+use Rattle.range_laws.proofs.TableLaws.{complete_local_law, declare_struct_law, local_law}
 use Rattle.range_laws.proofs.Wider.{items_wider, stmt_wider}
-use Rattle.check_laws.specs.Keeps.{FormedAt, SpecifiedAt}
 use Rattle.check_laws.proofs.FormedLaws.{attributed_law}
 use Rattle.check_laws.proofs.Layers.{forming_walk, specifiers_goes}
 use Rattle.unit_laws.specs.Stmts.{StmtAt, StmtsAt}
-use Rattle.unit_laws.proofs.InitLaws.{IsInitialised, initialise_keeps, initialised_object}
+use Rattle.unit_laws.proofs.InitLaws.{initialise_keeps}
 
 -- ---- headings
 
@@ -118,7 +111,7 @@ value_keeps : (n : ℕ) (t : CType) (place : Place) (o : Option Initial) (around
 value_keeps n t place None around s fit f l = stays s _ fit (declare_in (range around.in_entry s) n [] l refl)
 value_keeps n t place (Some x) around s fit f l =
     goes_then s (initialise t x place around s) _ (initialise_keeps t x place around s fit f) (λ it u c.
-    let d = complete_local_law n it.ctype u c.fit c.holds.typed in
+    let d = complete_local_law n it.ctype u c.fit c.holds.typed c.holds.small in
     comes u (complete_local n it.ctype u) (stmt.Declare n it.items) d.grows d.fit
     (declare_in (range around.in_entry (complete_local n it.ctype u)) n it.items (omega (arith, l, c.grows.locals, d.grows.locals))
     (items_wider (range around.in_entry u) (range around.in_entry (complete_local n it.ctype u)) (within around.in_entry u (complete_local n it.ctype u) d.grows) it.items c.holds.items)))
@@ -143,60 +136,3 @@ pub local_declaration_keeps : (d : Decl) (around : Around) (s : Tables) → IsFi
 local_declaration_keeps d around s fit = goes_cond s (eqb (length d.inits) 0) _ _
     (goes_then s (bare false around d.specs s) _ (bare_keeps false around d.specs s fit) (λ done u c. stays u [] c.fit refl))
     (goes_then s (heading_of false around d.specs s) _ (heading_keeps false around d.specs s fit) (λ h u c. inits_keep h around [] d.inits u c.fit c.holds.base refl))
-
--- ---- file scope
-
-pub function_keeps : (h : Heading) (name : Name) (d : Declared) (s : Tables) → IsFit s → few d.ctype ≡ true → Goes Anything s (function_declared h name d s)
-function_keeps h name d s fit f = then_goes s (attributed d.attributes Function d.ctype name.place) _ (attributed_law d.attributes Function d.ctype name.place f) (λ t g. function_law name t (linkage h d.attributes) s fit g)
-
-pub typedef_keeps : (name : Name) (d : Declared) (s : Tables) → IsFit s → few d.ctype ≡ true → Goes Anything s (typedef_declared name d s)
-typedef_keeps name d s fit f = then_goes s (attributed d.attributes Other d.ctype name.place) _ (attributed_law d.attributes Other d.ctype name.place f) (λ t g. typedef_law name t s fit g)
-
-nonsecure_if_object : (o : Option Place) (t : CType) (place : Place) → is_function t ≡ false → Answers IsObject (nonsecure_if o t place)
-nonsecure_if_object (Some at) t place h = nonsecure_object t place h
-nonsecure_if_object None t place h = told t h
-
-pub attributed_object : (attrs : Attributes) (on : Subject) (t : CType) (place : Place) → is_function t ≡ false → Answers IsObject (attributed attrs on t place)
-attributed_object attrs on t place h = answers_unless (misplaced attrs on) 40 place _ (λ k. nonsecure_if_object attrs.call t place h)
-
-pub and_so : {A : Type 0} {Q R : A → Type 0} (r : Checked A) → Answers Q r → Answers R r → Answers (λ x. Q x × R x) r
-and_so (Ok x) h g = record { it = (h.it, g.it) }
-and_so (Err e) h g = record { it = tt }
-
-global_value_keeps : (n : ℕ) (name : Name) (t : CType) (is_extern noinit : Bool) (o : Option Initial) (made : List TGlobal) (s : Tables) → IsFit s → few t ≡ true → is_function t ≡ false → IsObjectAt n s → Goes Anything s (global_value n name t is_extern noinit o made s)
-global_value_keeps n name t is_extern noinit None made s fit f k h = stays s _ fit tt
-global_value_keeps n name t is_extern noinit (Some x) made s fit f k h =
-    goes_then s (initialise t x name.place at_file s) _ (initialised_object t x name.place at_file s fit f k) (λ it u c.
-    let d = complete_object_law n it.ctype u c.fit c.holds.0.typed c.holds.1 (c.grows.externs.globals n h) in
-    comes u (complete_object n it.ctype u) _ d.grows d.fit tt)
-
-global_made_keeps : (name : Name) (t : CType) (how : Linkage) (noinit : Bool) (o : Option Initial) (made : List TGlobal) (s : Tables) → IsFit s → few t ≡ true → is_function t ≡ false → Goes Anything s (global_made name t how noinit o made s)
-global_made_keeps name t how noinit o made s fit f k =
-    goes_then s (declare_object name t how (is_some o) s) _ (object_law name t how (is_some o) s fit f k) (λ n u c. global_value_keeps n name t how.is_extern noinit o made u c.fit f k c.holds)
-
-object_keeps : (h : Heading) (name : Name) (d : Declared) (o : Option Initial) (made : List TGlobal) (s : Tables) → IsFit s → few d.ctype ≡ true → is_function d.ctype ≡ false → Goes Anything s (object_declared h name d o made s)
-object_keeps h name d o made s fit f k =
-    then_goes s (attributed d.attributes (Global (is_some o)) d.ctype name.place) _
-    (and_so _ (attributed_law d.attributes (Global (is_some o)) d.ctype name.place f) (attributed_object d.attributes (Global (is_some o)) d.ctype name.place k))
-    (λ t g. global_made_keeps name t (linkage h d.attributes) (is_some d.attributes.noinit) o made s fit g.0 g.1)
-
-declared_file : (h : Heading) (name : Name) (d : Declared) (o : Option Initial) (made : List TGlobal) (s : Tables) → IsFit s → few d.ctype ≡ true → Goes Anything s (file_declared h name d o made s)
-declared_file h name d o made s fit f = goes_cond s (is_typedef h.storage) _ _
-    (goes_unless s (is_some o) 28 name.place _ (λ k. goes_then s (typedef_declared name d s) _ (typedef_keeps name d s fit f) (λ x u c. stays u made c.fit tt)))
-    (by (is_function d.ctype) refl)
-  where
-    by : (b : Bool) → is_function d.ctype ≡ b → Goes Anything s (cond b (refuse (is_some o) 28 name.place (function_declared h name d s >>> (λ n u. Ok (made, u)))) (object_declared h name d o made s))
-    by true k = goes_unless s (is_some o) 28 name.place _ (λ l. goes_then s (function_declared h name d s) _ (function_keeps h name d s fit f) (λ n u c. stays u made c.fit tt))
-    by false k = object_keeps h name d o made s fit f k
-
-file_inits_keep : (h : Heading) (made : List TGlobal) (xs : List Init) (s : Tables) → IsFit s → few h.base ≡ true → Goes Anything s (file_inits h made xs s)
-file_inits_keep h made [] s fit b = stays s made fit tt
-file_inits_keep h made (x ∷ xs) s fit b =
-    goes_then s (file_init h x made s) _
-    (goes_then s (declared_by h x.declarator x.attrs at_file s) _ (declared_keeps h x.declarator x.attrs at_file s fit b) (λ d u c. declared_file h x.declarator.name d x.value made u c.fit c.holds.typed))
-    (λ more u c. file_inits_keep h more xs u c.fit b)
-
-pub file_declaration_keeps : (d : Decl) (made : List TGlobal) (s : Tables) → IsFit s → Goes Anything s (file_declaration d made s)
-file_declaration_keeps d made s fit = goes_cond s (eqb (length d.inits) 0) _ _
-    (goes_then s (bare true at_file d.specs s) _ (bare_keeps true at_file d.specs s fit) (λ done u c. stays u made c.fit tt))
-    (goes_then s (heading_of true at_file d.specs s) _ (heading_keeps true at_file d.specs s fit) (λ h u c. file_inits_keep h made d.inits u c.fit c.holds.base))

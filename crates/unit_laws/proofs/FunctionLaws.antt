@@ -1,10 +1,10 @@
 -- A function is in range at the end of its unit.
-use Rattle.std.proofs.Common.{◌≡◌, ℕ, ◌+◌, Bool, true, length, subst, sym, le_refl}
+use Rattle.std.proofs.Common.{◌≡◌, ◌+◌, true, length, subst, sym, le_refl}
 use Rattle.c_tree.specs.declared.program.TFunction.{TFunction}
 use Rattle.c_tree.specs.Numbers.{function_in_range, names_of_unit, stmt_in_range}
 use Rattle.c_tree.specs.Numbers.{Around as Range}
 use Rattle.c_scope.specs.declared.tables.Tables.{Tables}
-use Rattle.range_laws.specs.Ranges.{NamesWithin, externs_of, names, range}
+use Rattle.range_laws.specs.Ranges.{NamesWithin, externs_of, names}
 use Rattle.range_laws.proofs.Wider.{stmt_wider}
 use Rattle.unit_laws.specs.Stmts.{StmtAt}
 

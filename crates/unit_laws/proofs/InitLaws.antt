@@ -1,9 +1,8 @@
 -- The elements of initialisers are in range.
-use Rattle.std.proofs.Common.{◌≡◌, ℕ, zero, suc, ◌-◌, ◌&&◌, Bool, true, false, not, cond, is_some, ltb, List, [], ◌∷◌, ◌++◌, map, length, ap, sym, ◌∙◌, subst, refl, Option, None, Some, Ok, Err, slice_get}
-use Rattle.std.specs.List.{list_all}
+use Rattle.std.proofs.Common.{◌≡◌, ℕ, zero, suc, ◌-◌, Bool, true, false, ltb, List, [], ◌∷◌, ◌++◌, map, length, ap, sym, ◌∙◌, subst, refl, Option, None, Some}
 use Rattle.cm_base.specs.declared.place.Place.{Place}
 use Rattle.c_ast.specs.declared.expr.Expr.{Expr as Tree}
-use Rattle.c_ast.specs.declared.stmt.Initial.{Initial, roll-Initial, out-Initial}
+use Rattle.c_ast.specs.declared.stmt.Initial.{Initial, roll-Initial}
 use Rattle.c_ast.specs.declared.stmt.Initial.TheOpen.{Initial-F, Assign, Braces}
 use Rattle.c_ast.specs.declared.stmt.Initial.TheFolds.{map-Initial, fold-roll-Initial, ind-Initial}
 use Rattle.c_ast.specs.Places.{first_place}
@@ -14,18 +13,15 @@ use Rattle.c_types.specs.declared.ctype.Shape.TheOpen as shape
 use Rattle.c_types.specs.Derived.{unqualified}
 use Rattle.c_types.specs.declared.ctype.Shape.TheVariants.{rolls-Array}
 use Rattle.c_types.specs.Kind.{Look, is_function, look, looks_function}
-use Rattle.c_const.specs.Constant.{constant}
+use Rattle.c_types.specs.Sizes.{fits}
 use Rattle.c_const.specs.Operate.{narrowed}
 use Rattle.c_tree.specs.declared.expr.Expr.{Expr}
 use Rattle.c_tree.specs.declared.stmt.Item.{Item}
 use Rattle.c_tree.specs.Numbers.{expr_in_range, items_in_range}
 use Rattle.c_tree.specs.Numbers.{Around as Range}
-use Rattle.c_rows.specs.Answers.{Checked, ◌>>=◌}
 use Rattle.c_rows.specs.Values.{fitted}
-use Rattle.c_derive.specs.Derivations.{if_fits}
 use Rattle.c_scope.specs.declared.tables.StructInfo.{StructInfo}
 use Rattle.c_scope.specs.declared.tables.Tables.{Tables}
-use Rattle.c_scope.specs.Steps.{◌>>>◌, keeping, refuse}
 use Rattle.c_check.specs.declared.around.Around.{Around}
 use Rattle.c_check.specs.declared.operands.Operand.{Operand}
 use Rattle.c_check.specs.Operands.{tree_of, value_of}
@@ -34,14 +30,13 @@ use Rattle.c_init.specs.declared.initial.Initialised.{Initialised}
 use Rattle.c_init.specs.declared.parts.Parts.{Parts}
 use Rattle.c_init.specs.declared.parts.Parts.TheVariants.{Elements, Members}
 use Rattle.c_init.specs.declared.parts.Slot.{Slot}
-use Rattle.c_init.specs.Blanks.{blank, blank_as, blank_from, blank_part, constant_item, rest_blank, with_zero}
+use Rattle.c_init.specs.Blanks.{blank, blank_as, blank_from, blank_part, constant_item, rest_blank}
 use Rattle.c_init.specs.Parts.{count, part_at, parts_of}
 use Rattle.c_init.specs.Strings.{char_kind, chars_from, set_string, string_of}
-use Rattle.c_init.specs.Initials.{Setting, completed, if_constant, initial_step, initialise, is_misplaced, length_in, scalar_set, scalar_value, set_braces, set_expression, set_part, set_parts, set_scalar, set_struct, sets, setting, struct_refused, with_length}
+use Rattle.c_init.specs.Initials.{Setting, completed, if_constant, initial_step, initialise, is_misplaced, scalar_set, scalar_value, set_braces, set_expression, set_part, set_parts, set_scalar, set_struct, sets, setting, struct_refused, with_length}
 use Rattle.range_laws.specs.Few.{IsFit, few}
-use Rattle.range_laws.specs.Fits.{IsValue}
 use Rattle.range_laws.specs.Ranges.{Grows, range}
-use Rattle.range_laws.specs.Steps.{Answers, Came, Goes, IsFew}
+use Rattle.range_laws.specs.Steps.{Answers, Goes}
 use Rattle.range_laws.proofs.Both.{all_push}
 use Rattle.range_laws.proofs.FewLaws.{few_array, few_at, look_few, shape_out_is}
 use Rattle.range_laws.proofs.Moves.{answers_cond, answers_then, answers_unless, goes_then, goes_unless, keeps, silent, stays, stops, then_goes, told, within}
@@ -164,17 +159,18 @@ length_few t x (shape.Pointer to) h k = h
 length_few t x (shape.Struct m name size align) h k = h
 length_few t x (shape.Function g p n) h k = h
 
-completed_few : (t : CType) (x : Initial) (name : Place) → few t ≡ true → Answers IsFew (completed t x name)
-completed_few t x name h = answers_cond _ _ _ (λ k. told _ (length_few t x (look t) h (few_at t h))) (λ k. silent)
+completed_few : (t : CType) (x : Initial) (name : Place) → few t ≡ true → Answers (λ u. (few u ≡ true) × (fits u ≡ true)) (completed t x name)
+completed_few t x name h = answers_cond {Q = λ u. (few u ≡ true) × (fits u ≡ true)} _ _ _ (λ k. told _ (length_few t x (look t) h (few_at t h), k)) (λ k. silent)
 
 pub record IsInitialised (entry : Bool) (it : Initialised) (t : Tables) : Type 0 where
   pub typed : few it.ctype ≡ true
+  pub small : fits it.ctype ≡ true
   pub items : items_in_range (range entry t) it.items ≡ true
 
 pub initialise_keeps : (t : CType) (x : Initial) (name : Place) (around : Around) (s : Tables) → IsFit s → few t ≡ true → Goes (IsInitialised around.in_entry) s (initialise t x name around s)
 initialise_keeps t x name around s fit h =
     then_goes s (completed t x name) _ (completed_few t x name h) (λ u k.
-    goes_then s (sets x around u 0 [] s) _ ((setting_keeps x).goes around u 0 [] s fit refl) (λ items v c. stays v _ c.fit (record { typed = k; items = c.holds })))
+    goes_then s (sets x around u 0 [] s) _ ((setting_keeps x).goes around u 0 [] s fit refl) (λ items v c. stays v _ c.fit (record { typed = k.0; small = k.1; items = c.holds })))
 
 -- an object's type stays that of an object
 length_object : (t : CType) (x : Initial) (l : Look) → is_function t ≡ false → is_function (with_length t x l) ≡ false
@@ -188,5 +184,5 @@ length_object t x (shape.Function g p n) h = h
 
 pub initialised_object : (t : CType) (x : Initial) (name : Place) (around : Around) (s : Tables) → IsFit s → few t ≡ true → is_function t ≡ false → Goes (λ it u. IsInitialised around.in_entry it u × (is_function it.ctype ≡ false)) s (initialise t x name around s)
 initialised_object t x name around s fit h k =
-    then_goes s (completed t x name) _ (answers_cond {Q = λ u. (few u ≡ true) × (is_function u ≡ false)} _ _ _ (λ c. told _ (length_few t x (look t) h (few_at t h), length_object t x (look t) k)) (λ c. silent)) (λ u c.
-    goes_then s (sets x around u 0 [] s) _ ((setting_keeps x).goes around u 0 [] s fit refl) (λ items v d. stays v _ d.fit (record { typed = c.0; items = d.holds }, c.1)))
+    then_goes s (completed t x name) _ (answers_cond {Q = λ u. (few u ≡ true) × (is_function u ≡ false) × (fits u ≡ true)} _ _ _ (λ c. told _ (length_few t x (look t) h (few_at t h), length_object t x (look t) k, c)) (λ c. silent)) (λ u c.
+    goes_then s (sets x around u 0 [] s) _ ((setting_keeps x).goes around u 0 [] s fit refl) (λ items v d. stays v _ d.fit (record { typed = c.0; small = c.2; items = d.holds }, c.1)))

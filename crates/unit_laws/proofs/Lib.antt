@@ -1,4 +1,6 @@
 pub mod InitLaws
 pub mod DeclLaws
+pub mod GlobalLaws
+pub mod FileLaws
 pub mod BodyLaws
 pub mod FunctionLaws

@@ -1,10 +1,9 @@
 -- What holds of statements and of elements of initialisers at a place of a unit's text.
-use Rattle.std.specs.Prelude.{◌≡◌, Bool, true, List, Option, Some, None}
+use Rattle.std.specs.Prelude.{◌≡◌, Bool, true, List}
 use Rattle.std.specs.List.{list_all}
-use Rattle.c_tree.specs.declared.expr.Expr.{Expr}
 use Rattle.c_tree.specs.declared.stmt.Item.{Item}
 use Rattle.c_tree.specs.declared.stmt.Stmt.{Stmt}
-use Rattle.c_tree.specs.Numbers.{expr_in_range, in_range_or, items_in_range, stmt_in_range}
+use Rattle.c_tree.specs.Numbers.{items_in_range, stmt_in_range}
 use Rattle.c_scope.specs.declared.tables.Tables.{Tables}
 use Rattle.range_laws.specs.Ranges.{range}
 

@@ -12,15 +12,18 @@ ghost use Rattle.c_check.specs.declared.around.Around.{Around};
 ghost use Rattle.c_decl.specs.Globals.{file_declaration};
 ghost use Rattle.c_decl.specs.Locals.{local_declaration};
 ghost use Rattle.c_body.specs.Stmts.{body};
+ghost use Rattle.later_laws.specs.Later.{AreSound};
 ghost use Rattle.range_laws.specs.Few.{IsFit};
 ghost use Rattle.range_laws.specs.Ranges.{NamesWithin, externs_of, names};
-ghost use Rattle.range_laws.specs.Steps.{Anything, Goes};
+ghost use Rattle.range_laws.specs.Steps.{Goes, Passes};
+ghost use Rattle.unit_laws.specs.Globals.{GlobalsAt};
 ghost use Rattle.unit_laws.specs.Stmts.{StmtAt, StmtsAt};
 
-/// A declaration adds numbers and takes none away, and those in the statements that it stands for are in range.
+/// A declaration adds numbers and takes none away, and those in the statements that it stands for are in range. A global that is
+/// defined has all of its bytes, and stands among the externs.
 pub fn declaration_law()
     ensures locals { (d : Decl) (around : Around) (s : Tables) → IsFit s → Goes (StmtsAt around.in_entry) s (local_declaration d around s) }
-    ensures files { (d : Decl) (made : List TGlobal) (s : Tables) → IsFit s → Goes Anything s (file_declaration d made s) }
+    ensures files { (d : Decl) (made : List TGlobal) (s : Tables) → IsFit s → AreSound s → GlobalsAt made s → Passes GlobalsAt s (file_declaration d made s) }
 {}
 
 /// The body of a function adds numbers and takes none away, and those in its statement are in range at its end.

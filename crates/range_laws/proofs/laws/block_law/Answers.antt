@@ -8,7 +8,7 @@ pub returns-clause-parameters : goal.returns-clause-parameters
 returns-clause-parameters c scope name t first s fit f = tables.parameter_law scope name t first s fit f
 
 pub returns-clause-completed : goal.returns-clause-completed
-returns-clause-completed c n t s fit f = tables.complete_local_law n t s fit f
+returns-clause-completed c n t s fit f g = tables.complete_local_law n t s fit f g
 
 pub returns-clause-closed : goal.returns-clause-closed
 returns-clause-closed c scope s fit = tables.close_block_law scope s fit
