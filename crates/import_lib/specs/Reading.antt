@@ -43,7 +43,7 @@ Leaves (Ok _) new answer = answer ≡ Ok new
 Leaves (Err (Malformed at)) new answer = answer ≡ Err at
 Leaves (Err NoMemory) new answer = Unit {0}
 
--- a field that is whole
+-- a field, or 0 where it isn't whole
 abbrev pub byte : List ℕ → ℕ → ℕ
 byte bytes at = slice_index bytes at
 
@@ -70,7 +70,7 @@ identification_of bytes = do
   order ← test (byte bytes 5 == ELFDATA2LSB) 5
   test (byte bytes 6 == EV_CURRENT) 6
 
--- e_shoff and e_shnum: where the section headers begin, and how many there are
+-- where the section headers begin, and how many there are
 abbrev pub shoff : List ℕ → ℕ
 shoff bytes = word bytes 32
 
