@@ -25,7 +25,7 @@ fn answer(alloc: Global) -> Result<Text, NoMemory>
 }
 
 /// The library of one entry `answer`.
-fn library(alloc: Global) -> Result<Bytes, NoMemory> {
+pub fn library(alloc: Global) -> Result<Bytes, NoMemory> {
     let veneer = Veneer {
         name: answer(alloc)?,
         address: 0x103F_F000,

@@ -7,4 +7,6 @@ mod fields;
 #[cfg(test)]
 mod images;
 #[cfg(test)]
+mod libraries;
+#[cfg(test)]
 mod scripts;

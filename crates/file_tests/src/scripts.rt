@@ -1,8 +1,8 @@
 //! Scripts and transcripts.
 
-use cm_base::{Bytes, List, NoMemory, Stop};
-use ns_script::{ScriptFault, print_events, read_script};
-use ns_types::{End, Event, Events, Item, Start, Turn, View};
+use cm_base::{Bytes, List, NoMemory, Stop, Text};
+use ns_script::{ScriptFault, print_events, print_trace, read_script};
+use ns_types::{CEvent, CEvents, End, Event, Events, Item, Start, Turn, View};
 use std::alloc::Global;
 use std::test::Fail;
 
@@ -150,5 +150,64 @@ fn a_transcript(rt: HostRuntime) -> Result<(), Fail> {
     let want =
         "given pc=00000200 r0=0000002a r1=00000000 r2=00000000 r3=00000000 r4=00000000 r5=00000000 r6=00000000 r7=00000000 r8=00000000 r9=00000000 r10=00000000 r11=00000000 r12=00000000 lr=00000200 flags=1f msp=20020000 psp=00000000\nwrote at=20000000 size=4 value=00000007\nstopped EntryPoint\nend stopped\n";
     assert!(rt; prints(rt.alloc(), &all, End::Stopped, want));
+    Ok(())
+}
+
+/// A Non-secure call with one argument.
+fn called(alloc: Global) -> Result<CEvent, NoMemory> {
+    let args = List::from_slice(alloc, &[5, 0xFFFF_8000])?;
+    Ok(CEvent::Called {
+        target: 0x300,
+        args,
+    })
+}
+
+/// The events of a C run.
+fn c_events(alloc: Global) -> Result<CEvents, NoMemory> {
+    let wrote = CEvent::Wrote {
+        at: 0x2000_0000,
+        size: 4,
+        value: 7,
+    };
+    let mut list = List::new(alloc);
+    list.push(CEvent::Started)?;
+    list.push(wrote)?;
+    list.push(CEvent::Result { entry: 1, r0: 0x2a })?;
+    list.push(called(alloc)?)?;
+    list.push(CEvent::Stopped(Stop::CallTarget))?;
+    Ok(CEvents {
+        list,
+        end: End::Stopped,
+        peak: 35_924,
+    })
+}
+
+/// The names of two entries.
+fn entries(alloc: Global) -> Result<List<Text>, NoMemory> {
+    let mut names = List::new(alloc);
+    names.push(Text::from_slice(alloc, b"first")?)?;
+    names.push(Text::from_slice(alloc, b"sum")?)?;
+    Ok(names)
+}
+
+fn traced(alloc: Global) -> Result<Bytes, NoMemory> {
+    let events = c_events(alloc)?;
+    let names = entries(alloc)?;
+    print_trace(alloc, &events, names.as_slice())
+}
+
+/// Whether the text of the C run is this.
+fn traces(alloc: Global, want: &str) -> bool {
+    match traced(alloc) {
+        Ok(text) => text.as_slice() == want.as_bytes(),
+        Err(_memory) => false,
+    }
+}
+
+#[test]
+fn a_transcript_of_c(rt: HostRuntime) -> Result<(), Fail> {
+    let want =
+        "started\nwrote at=20000000 size=4 value=00000007\nresult sum 0000002a\ncalled 00000300 00000005 ffff8000\nstopped CallTarget\nend stopped\npeak 35924\n";
+    assert!(rt; traces(rt.alloc(), want));
     Ok(())
 }

@@ -1,1 +1,4 @@
 pub mod Files
+pub mod NameLaws
+pub mod Tables
+pub mod ReadBack

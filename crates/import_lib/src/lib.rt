@@ -2,6 +2,10 @@
 //! (ECM0359818, Import library).
 #![tactic(auto)]
 
+pub mod laws;
+mod names;
+mod read;
 mod write;
 
+pub use read::{ImplibFault, read_implib};
 pub use write::write_implib;

@@ -1,4 +1,4 @@
--- The transcript of a run.
+-- The transcripts of a run of the machine and of a run of the C program.
 use Rattle.std.specs.Prelude.{ℕ, ◌+◌, ◌/◌, ◌%◌, List, [], ◌∷◌, ◌++◌, slice_index_or, codes, false}
 use Rattle.std.specs.List.{flat_map}
 use Rattle.std.specs.Fmt.{decimal, digit_glyph}
@@ -10,6 +10,9 @@ use Rattle.ns_types.specs.declared.event.Event.TheVariants as event
 use Rattle.ns_types.specs.declared.event.End.{End}
 use Rattle.ns_types.specs.declared.event.End.TheVariants as ending
 use Rattle.ns_types.specs.declared.event.Events.{Events}
+use Rattle.ns_types.specs.declared.event.CEvent.{CEvent}
+use Rattle.ns_types.specs.declared.event.CEvent.TheVariants as c_event
+use Rattle.ns_types.specs.declared.event.CEvents.{CEvents}
 use Rattle.ns_script.specs.Turns.{names}
 
 -- a number below 256 in two digits of lower case
@@ -68,6 +71,34 @@ end_line ending.Stopped = codes "end stopped\n"
 end_line ending.Waiting = codes "end waiting\n"
 end_line ending.Spent = codes "end spent\n"
 
--- the transcript of a run
+-- the transcript of a run of the machine
 unfoldable pub transcript_of : Events → List ℕ
 transcript_of e = flat_map event_line e.list ++ end_line e.end
+
+-- ` VALUE`
+unfoldable pub spaced : ℕ → List ℕ
+spaced value = codes " " ++ hex8 value
+
+-- an entry function of this name ended with this result
+unfoldable pub result_line : List ℕ → ℕ → List ℕ
+result_line name r0 = codes "result " ++ name ++ spaced r0 ++ codes "\n"
+
+-- a Non-secure call of this target, with each of its arguments
+unfoldable pub called_line : ℕ → List ℕ → List ℕ
+called_line target args = codes "called" ++ spaced target ++ flat_map spaced args ++ codes "\n"
+
+-- One line for an event of a C program whose entries have these names: an entry is numbered by its place among them.
+unfoldable pub c_event_line : List (List ℕ) → CEvent → List ℕ
+c_event_line entries c_event.Started = codes "started\n"
+c_event_line entries (c_event.Wrote at size value) = wrote_line at size value
+c_event_line entries (c_event.Result entry r0) = result_line (slice_index_or entries entry []) r0
+c_event_line entries (c_event.Called target args) = called_line target args
+c_event_line entries (c_event.Stopped s) = stopped_line s
+
+-- the greatest stack need of the functions active at one moment
+unfoldable pub peak_line : ℕ → List ℕ
+peak_line peak = codes "peak " ++ decimal peak ++ codes "\n"
+
+-- the transcript of a run of a C program whose entries have these names
+unfoldable pub c_transcript_of : List (List ℕ) → CEvents → List ℕ
+c_transcript_of entries e = flat_map (c_event_line entries) e.list ++ end_line e.end ++ peak_line e.peak

@@ -1,12 +1,13 @@
 //! Transcripts.
 
-ghost use Rattle.std.specs.Prelude.{◌≡◌, ◌<◌, ◌≤◌, ◌++◌, length, false, OnOk, IfOk};
+ghost use Rattle.std.specs.Prelude.{◌≡◌, ◌<◌, ◌≤◌, [], ◌++◌, length, slice_index_or, false, OnOk, IfOk};
+ghost use Rattle.std.specs.List.{flat_map};
 ghost use Rattle.std.specs.Fmt.{decimal, digit_glyph};
 ghost use Rattle.ns_script.specs.Transcript as spec;
 
 use crate::turn::name_at;
-use cm_base::{Bytes, NoMemory, Stop};
-use ns_types::{End, Event, Events, View};
+use cm_base::{Bytes, NoMemory, Stop, Text};
+use ns_types::{CEvent, CEvents, End, Event, Events, View};
 use std::alloc::Global;
 
 fn stop_name(stop: Stop) -> &'static str
@@ -103,7 +104,7 @@ fn push_given(out: &mut Bytes, view: &View) -> Result<(), NoMemory>
 }
 
 /// A number in decimal.
-fn push_decimal(alloc: Global, out: &mut Bytes, n: u8) -> Result<(), NoMemory>
+fn push_decimal(alloc: Global, out: &mut Bytes, n: u64) -> Result<(), NoMemory>
     ensures { OnOk result (out.new ≡ out.old ++ decimal n) }
 {
     let text = format!(in alloc; "{n}")?;
@@ -117,7 +118,7 @@ fn push_wrote(alloc: Global, out: &mut Bytes, at: u32, size: u8, value: u32) -> 
     push_text(out, "wrote at=")?;
     push_word(out, at)?;
     push_text(out, " size=")?;
-    push_decimal(alloc, out, size)?;
+    push_decimal(alloc, out, u64::from(size))?;
     push_text(out, " value=")?;
     push_word(out, value)?;
     push_text(out, "\n")
@@ -153,7 +154,7 @@ fn end_line(end: End) -> &'static str
     }
 }
 
-/// The transcript of a run: a line for each event, and a last one for the end.
+/// The transcript of a run of the machine: a line for each event, and a last one for the end.
 #[tactic(auto, unfolding(crate::specs::Transcript::transcript_of))]
 pub fn print_events(alloc: Global, events: &Events) -> Result<Bytes, NoMemory>
     ensures { IfOk result (λ text. text ≡ spec.transcript_of events.now) }
@@ -163,5 +164,97 @@ pub fn print_events(alloc: Global, events: &Events) -> Result<Bytes, NoMemory>
         push_event(alloc, &mut out, event)?;
     }
     push_text(&mut out, end_line(events.end))?;
+    Ok(out)
+}
+
+/// ` VALUE`.
+#[tactic(auto, unfolding(crate::specs::Transcript::spaced))]
+fn push_spaced(out: &mut Bytes, value: u32) -> Result<(), NoMemory>
+    ensures { OnOk result (out.new ≡ out.old ++ spec.spaced value) }
+{
+    push_text(out, " ")?;
+    push_word(out, value)
+}
+
+/// The name of the entry of this number, or the empty one where there are fewer.
+fn entry_name(names: &[Text], entry: u32) -> &[u8]
+    ensures { result.now ≡ slice_index_or names.now entry [] }
+{
+    match names.get(entry as usize) {
+        Some(name) => name.as_slice(),
+        None => &[],
+    }
+}
+
+#[tactic(auto, unfolding(crate::specs::Transcript::result_line))]
+fn push_result(out: &mut Bytes, name: &[u8], r0: u32) -> Result<(), NoMemory>
+    ensures { OnOk result (out.new ≡ out.old ++ spec.result_line name.now r0) }
+{
+    push_text(out, "result ")?;
+    out.extend_from_slice(name)?;
+    push_spaced(out, r0)?;
+    push_text(out, "\n")
+}
+
+/// Each value behind a blank.
+fn push_all_spaced(out: &mut Bytes, values: &[u32]) -> Result<(), NoMemory>
+    ensures { OnOk result (out.new ≡ out.old ++ flat_map spec.spaced values.now) }
+{
+    for value in values {
+        push_spaced(out, *value)?;
+    }
+    Ok(())
+}
+
+#[tactic(auto, unfolding(crate::specs::Transcript::called_line))]
+fn push_called(out: &mut Bytes, target: u32, args: &[u32]) -> Result<(), NoMemory>
+    ensures { OnOk result (out.new ≡ out.old ++ spec.called_line target args.now) }
+{
+    push_text(out, "called")?;
+    push_spaced(out, target)?;
+    push_all_spaced(out, args)?;
+    push_text(out, "\n")
+}
+
+/// One line for an event of a C program whose entries have these names.
+#[tactic(auto, unfolding(crate::specs::Transcript::c_event_line))]
+fn push_c_event(
+    alloc: Global,
+    out: &mut Bytes,
+    names: &[Text],
+    event: &CEvent,
+) -> Result<(), NoMemory>
+    ensures { OnOk result (out.new ≡ out.old ++ spec.c_event_line names.now event.now) }
+{
+    match event {
+        CEvent::Started => push_text(out, "started\n"),
+        CEvent::Wrote { at, size, value } => push_wrote(alloc, out, *at, *size, *value),
+        CEvent::Result { entry, r0 } => push_result(out, entry_name(names, *entry), *r0),
+        CEvent::Called { target, args } => push_called(out, *target, args.as_slice()),
+        CEvent::Stopped(stop) => push_stopped(out, *stop),
+    }
+}
+
+#[tactic(auto, unfolding(crate::specs::Transcript::peak_line))]
+fn push_peak(alloc: Global, out: &mut Bytes, peak: u64) -> Result<(), NoMemory>
+    ensures { OnOk result (out.new ≡ out.old ++ spec.peak_line peak) }
+{
+    push_text(out, "peak ")?;
+    push_decimal(alloc, out, peak)?;
+    push_text(out, "\n")
+}
+
+/// The transcript of a run of a C program whose entries have these names: a line for each event, one for the end, and a last one
+/// for the peak. An entry without a name is printed with the empty one.
+#[tactic(auto, unfolding(crate::specs::Transcript::c_transcript_of))]
+pub fn print_trace(alloc: Global, events: &CEvents, names: &[Text]) -> Result<Bytes, NoMemory>
+    ensures { IfOk result (λ text. text ≡ spec.c_transcript_of names.now events.now) }
+{
+    let mut out = Bytes::new(alloc);
+    for event in events.list.as_slice() {
+        push_c_event(alloc, &mut out, names, event)?;
+    }
+    push_text(&mut out, end_line(events.end))?;
+    push_peak(alloc, &mut out, events.peak)?;
     Ok(out)
 }
