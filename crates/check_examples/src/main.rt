@@ -3,13 +3,12 @@
 //! says: `bench/check` measures it.
 #![tactic(auto)]
 
-use c_define::{Made, parts_typed};
 use c_lex::{LexFault, MAX_SOURCE, lex};
 use c_parse::{SyntaxFault, parse};
 use c_rows::TypeFault;
-use c_scope::Tables;
-use c_tree::{TFunction, TGlobal, function_nodes, slots};
-use cm_base::Place;
+use c_tree::{TFunction, TGlobal, TUnit, function_nodes, slots};
+use c_unit::check;
+use cm_base::{Place, Shared};
 use std::alloc::Global;
 use std::io::Read;
 use std::{env, io};
@@ -21,15 +20,15 @@ enum Fault {
     NoMemory,
 }
 
-/// What a text defines, or its first fault.
-fn checked(alloc: Global, text: &[u8]) -> Result<Made, Fault> {
+/// The typed tree of a text, or its first fault.
+fn checked(alloc: Global, text: &[u8]) -> Result<Shared<TUnit>, Fault> {
     if text.len() > MAX_SOURCE {
         return Err(Fault::NoMemory);
     }
     match lex(alloc, 0, text) {
         Ok(tokens) => match parse(alloc, tokens.as_slice()) {
-            Ok(unit) => match parts_typed(alloc, unit.parts.as_slice(), &mut Tables::new(alloc)) {
-                Ok(all) => Ok(all),
+            Ok(unit) => match check(alloc, &unit) {
+                Ok(unit) => Ok(unit),
                 Err(TypeFault::At { code, place }) => Err(Fault::At { code, place }),
                 Err(TypeFault::NoMemory) => Err(Fault::NoMemory),
             },
@@ -70,7 +69,7 @@ fn print_global(rt: &HostRuntime, g: &TGlobal) -> io::Result<()> {
     Ok(())
 }
 
-fn print_unit(rt: &HostRuntime, unit: &Made) -> io::Result<()> {
+fn print_unit(rt: &HostRuntime, unit: &TUnit) -> io::Result<()> {
     print!(rt; "ok")?;
     for f in unit.functions.as_slice() {
         print_function(rt, f)?;
@@ -86,7 +85,7 @@ fn show(rt: &HostRuntime, text: &[u8], rounds: u32) -> io::Result<()> {
         let _again = checked(rt.alloc(), text);
     }
     match checked(rt.alloc(), text) {
-        Ok(unit) => print_unit(rt, &unit),
+        Ok(unit) => print_unit(rt, unit.get()),
         Err(Fault::At { code, place }) => {
             let line = place.line;
             let col = place.col;
