@@ -1,5 +1,5 @@
 @ The first of two parts of Secure firmware in assembly: its entry functions, as a compiler names them, each at its name and at that
-@ of its code.
+@ of its code. For GNU ld's veneers both have a size, and no other object names the second (version 2.40 takes it for another entry).
         .syntax unified
         .arch   armv8-m.main
         .thumb

@@ -1,9 +1,9 @@
 -- Objects that pass the tests can be linked.
-use Rattle.std.proofs.Common.{◌≡◌, ◌≢◌, ℕ, zero, suc, ◌+◌, ◌%◌, ◌^◌, ◌<◌, ◌≤◌, ◌⊎◌, ◌&&◌, ◌||◌, ◌==◌, Bool, true, false, not, List, [], ◌∷◌, ◌++◌, length, get_or, All, AllPairs, Contains, slice_get, bytes_eq, codes, Option, Some, None, refl, sym, ap, ◌∙◌, subst, true≢false, inl, inr, arith}
+use Rattle.std.proofs.Common.{◌≡◌, ◌≢◌, ℕ, zero, suc, ◌+◌, ◌%◌, ◌^◌, ◌<◌, ◌≤◌, ◌⊎◌, ◌&&◌, ◌||◌, ◌==◌, Bool, true, false, not, List, [], ◌∷◌, ◌++◌, length, map, get_or, All, AllPairs, Contains, slice_get, bytes_eq, codes, Option, Some, None, refl, sym, ap, ◌∙◌, subst, true≢false, inl, inr, arith}
 use Rattle.std.specs.Prelude.{nat_le}
 use Rattle.std.specs.List.{list_all, list_any}
-use Rattle.std.proofs.lemmas.Bool.Decides.{nat_tests}
 use Rattle.std.proofs.lemmas.List.Sums.{AllPass-from_list_all}
+use Rattle.std.proofs.lemmas.List.Elements.{All-map}
 use Rattle.std.proofs.lemmas.List.Folds.{list_any_at}
 use Rattle.ns_types.specs.declared.event.Veneer.{Veneer}
 use Rattle.ns_types.specs.Memory.{half_at}
@@ -14,7 +14,9 @@ use Rattle.elf_object.specs.declared.object.Home.TheVariants.{Undefined, Text, I
 use Rattle.elf_object.specs.declared.object.Symbol.{Symbol}
 use Rattle.elf_object.specs.declared.object.Reloc.{Reloc}
 use Rattle.elf_object.specs.CanLink.{HasValue, HasForm, AreApart, has_form, is_defined, definitions, DefinesCode, IsCode, IsTarget, RelocCanLink, ObjectCanLink, EntryCanLink, CanLink}
-use Rattle.elf_object.specs.File.{HasWords}
+use Rattle.elf_object.specs.File.{CanWrite, HasWords}
+use Rattle.elf_object.specs.Reading.{IsObjectFile, object_in}
+use Rattle.elf_object.proofs.ReadBack.{object_in-object_file}
 use Rattle.elf_object.specs.Placed.{twin}
 use Rattle.veneer_laws.proofs.Counts.{same_name, equal_names}
 use Rattle.veneer_laws.proofs.Places.{equal_numbers}
@@ -206,6 +208,15 @@ can objects entries e =
 -- values that are tested to be of 32 bits are so
 pub has_words : (o : Object) → list_all is_word o.symbols ≡ true → HasWords o
 has_words o e k d lt = less (get_or o.symbols k d).value (2 ^ 32) (AllPass-from_list_all is_word o.symbols e k d lt)
+
+-- what is read of object files can be written
+file_object : (f : List ℕ) → IsObjectFile f → CanWrite (object_in f)
+file_object f it =
+    subst CanWrite (sym (ap object_in it.is.is ∙ object_in-object_file it.object it.is.writable it.words)) it.is.writable
+
+pub read_objects : (objects : List Object) (files : List (List ℕ)) → objects ≡ map object_in files → All IsObjectFile files → All CanWrite objects
+read_objects objects files e are =
+    subst (All CanWrite) (sym e) (All-map CanWrite object_in files (λ k d lt. file_object (get_or files k d) (are k d lt)))
 
 -- ---- names that differ
 

@@ -1,7 +1,6 @@
 //! Object files of which nothing is known.
 ghost use Rattle.std.specs.Prelude.{◌≡◌, ◌<◌, ◌^◌, true, length, map, All, IfOk, IfSome};
 ghost use Rattle.std.specs.List.{list_all};
-ghost use Rattle.elf_object.specs.File.{CanWrite};
 ghost use Rattle.elf_object.specs.Reading.{IsObjectFile, object_in};
 ghost use Rattle.link_check.specs.Checks as spec;
 
@@ -30,7 +29,6 @@ fn are_words(symbols: &[Symbol])
 fn object_of(alloc: Global, file: &Bytes) -> Result<Option<Object>, NoMemory>
     requires { length file.now < 2 ^ 32 }
     ensures object { IfOk result (λ o. IfSome o (λ x. x ≡ object_in file.now)) }
-    ensures writable { IfOk result (λ o. IfSome o CanWrite) }
     ensures file { IfOk result (λ o. IfSome o (λ _. IsObjectFile file.now)) }
 {
     match read_object(alloc, file.as_slice()) {
@@ -47,15 +45,14 @@ fn object_of(alloc: Global, file: &Bytes) -> Result<Option<Object>, NoMemory>
 pub fn objects_of(alloc: Global, files: &[Bytes]) -> Result<Option<List<Object>>, NoMemory>
     requires { All (λ f. length f < 2 ^ 32) files.now }
     ensures objects { IfOk result (λ o. IfSome o (λ x. x ≡ map object_in files.now)) }
-    ensures writable { IfOk result (λ o. IfSome o (All CanWrite)) }
     ensures files { IfOk result (λ o. IfSome o (λ _. All IsObjectFile files.now)) }
 {
     let mut objects = List::new(alloc);
     for file in files {
-        match object_of(alloc, file)? {
-            None => return Ok(None),
-            Some(object) => objects.push(object)?,
-        }
+        let Some(object) = object_of(alloc, file)? else {
+            return Ok(None);
+        };
+        objects.push(object)?;
     }
     Ok(Some(objects))
 }
