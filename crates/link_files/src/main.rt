@@ -29,10 +29,7 @@ fn pieces(alloc: Global, bytes: &[u8], from: usize) -> Result<(List<Bytes>, usiz
     for _piece in 0..word(bytes, from) {
         let begin = at.saturating_add(4);
         let end = begin.saturating_add(word(bytes, at) as usize);
-        list.push(Bytes::from_slice(
-            alloc,
-            bytes.get(begin..end).unwrap_or(&[]),
-        )?)?;
+        list.push(Bytes::from_slice(alloc, bytes.get(begin..end).unwrap_or(&[]))?)?;
         at = end;
     }
     Ok((list, at))

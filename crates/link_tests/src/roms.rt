@@ -1,11 +1,11 @@
 //! Expected values from ELF for the Arm Architecture (Relocation), DDI0553 (encodings of BL, B, MOVW and MOVT; vector table) and
 //! ECM0359818 (Secure gateway veneers).
 
+use crate::program::{entries, files, library};
 use elf32::get32;
 use link_check::checked_link;
 use linker::Linked;
 use ns_types::Veneers;
-use crate::program::{entries, files, library};
 use std::alloc::Global;
 use std::test::Fail;
 use veneer_link::LinkFault;

@@ -3,9 +3,10 @@ use Rattle.std.specs.Prelude.{◌≡◌, ℕ, ◌+◌, ◌<◌, ◌≤◌, ◌�
 use Rattle.ns_types.specs.declared.event.Veneer.{Veneer}
 use Rattle.elf_object.specs.declared.object.Object.{Object}
 use Rattle.elf_object.specs.declared.object.Reloc.{Reloc}
+use Rattle.elf_object.specs.declared.object.Sited.{Sited}
 use Rattle.elf_object.specs.File.{CanWrite}
 use Rattle.elf_object.specs.CanLink.{ObjectCanLink}
-use Rattle.elf_object.specs.Linked.{Sited, reloc_place, register_at, resolved, linked_text}
+use Rattle.elf_object.specs.Linked.{reloc_place, register_at, resolved, linked_text}
 
 -- the bytes that resolve a relocation of an object
 abbrev pub resolving : List Veneer → List Sited → Sited → Reloc → List ℕ
