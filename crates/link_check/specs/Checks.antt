@@ -1,5 +1,5 @@
 -- Tests of objects: where all of them pass, the objects can be linked.
-use Rattle.std.specs.Prelude.{◌≢◌, ℕ, ◌+◌, ◌%◌, ◌^◌, ◌<◌, ◌≤◌, ◌==◌, ◌&&◌, ◌||◌, Bool, true, false, not, nat_le, nat_lt, List, [], ◌∷◌, length, map, sum_by, count_by, slice_get, bytes_eq, codes, All, AllPairs, Option, Some, None}
+use Rattle.std.specs.Prelude.{◌≢◌, ℕ, ◌+◌, ◌%◌, ◌^◌, ◌<◌, ◌≤◌, ◌==◌, ◌&&◌, ◌||◌, Bool, true, false, not, nat_le, nat_lt, List, [], ◌∷◌, length, map, sum_by, count_by, slice_get, bytes_eq, codes, All, AllPairs, Option, Some, None, Result, Ok, Err}
 use Rattle.std.specs.List.{list_all, list_any}
 use Rattle.ns_types.specs.declared.event.Veneer.{Veneer}
 use Rattle.ns_types.specs.Memory.{half_at}
@@ -12,6 +12,10 @@ use Rattle.elf_object.specs.declared.object.Reloc.{Reloc}
 use Rattle.elf_object.specs.CanLink.{has_form, is_defined, definitions, CanLink}
 use Rattle.elf_object.specs.Reading.{IsObjectFile, object_in}
 use Rattle.elf_object.specs.Placed.{twin}
+use Rattle.veneer_link.specs.Assign.{Assigns}
+use Rattle.veneer_link.specs.declared.fault.LinkFault.{LinkFault}
+use Rattle.linker.specs.declared.driver.Linked.{Linked}
+use Rattle.linker.specs.Passes.{Links}
 
 -- whether a value lies in its part
 abbrev pub value_fits : Object → ℕ → Home → Bool
@@ -131,3 +135,10 @@ pub record IsLinkable (files : List (List ℕ)) (entries : List (List ℕ)) : Ty
   pub can_link : CanLink (map object_in files) entries
   pub few : length entries ≤ 512
   pub differ : AllPairs (λ a b. a ≢ b) entries
+
+-- The answer over files of which nothing is known: what is linked of them; or nothing, where they can't be linked; or that fault of the
+-- old veneers that assigning finds.
+abbrev pub LinksIf : List (List ℕ) → List (List ℕ) → List Veneer → Result (Option Linked) LinkFault → Type 0
+LinksIf files entries old (Ok None) = Unit {0}
+LinksIf files entries old (Ok (Some l)) = Links (map object_in files) entries old (Ok l)
+LinksIf files entries old (Err fault) = Assigns entries old (Err fault)

@@ -89,7 +89,8 @@ pub fn are_linkable(alloc: Global, files: &[Bytes], entries: &[Text]) -> Result<
     }
 }
 
-/// Links object files of which nothing is known: none where they, or the old library, aren't such as can be linked.
+/// Links object files of which nothing is known: none where they, or the old library, aren't such as can be linked. The faults are those
+/// of `link`.
 #[tactic(auto, using(crate::proofs::CheckLaws::veneers_apart))]
 pub fn checked_link(
     alloc: Global,
@@ -97,13 +98,16 @@ pub fn checked_link(
     entries: &[Text],
     old: Option<&Veneers>,
 ) -> Result<Option<Linked>, LinkFault>
-    ensures { IfOk result (λ o. IfSome o (λ l. Placed l.rom (map object_in files.now) l.veneers.list)) }
+    ensures value { spec.LinksIf files.now entries.now (old_list (option_copied old.entry)) result }
+    ensures placed { IfOk result (λ o. IfSome o (λ l. Placed l.rom (map object_in files.now) l.veneers.list)) }
 {
     let linkable = are_linkable(alloc, files, entries)?;
     let differs = old_differs(old);
     if !linkable || !differs {
         return Ok(None);
     }
-    let linked = link(alloc, files, entries, old)?;
-    Ok(Some(linked))
+    match link(alloc, files, entries, old) {
+        Ok(linked) => Ok(Some(linked)),
+        Err(fault) => Err(fault),
+    }
 }
