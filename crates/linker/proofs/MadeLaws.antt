@@ -1,5 +1,5 @@
 -- What the passes ask of objects that can be passed on, where their tables are known.
-use Rattle.std.proofs.Common.{◌≡◌, ℕ, ◌+◌, ◌<◌, ◌≤◌, ◌^◌, true, List, length, flat_map, All, codes, refl, sym, ap, ◌∙◌, subst}
+use Rattle.std.proofs.Common.{◌≡◌, ◌+◌, ◌<◌, ◌≤◌, ◌^◌, true, List, length, flat_map, All, codes, refl, sym, ap, ◌∙◌, subst}
 use Rattle.std.specs.List.{list_all}
 use Rattle.ns_types.specs.Platform.{row_size}
 use Rattle.ns_types.specs.declared.event.Veneer.{Veneer}

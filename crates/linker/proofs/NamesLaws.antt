@@ -8,8 +8,8 @@ use Rattle.elf_object.specs.declared.object.Home.TheVariants.{Undefined, Text, I
 use Rattle.elf_object.specs.declared.object.Reloc.{Reloc}
 use Rattle.elf_object.specs.declared.object.Sited.{Sited}
 use Rattle.elf_object.specs.declared.object.Symbol.{Symbol}
-use Rattle.elf_object.specs.Linked.{or_else, veneer_of, place_in, defined_place, named_in, place_named, place_of, reloc_place, with_reloc, linked_text, resolved, with_bytes, register_at}
-use Rattle.veneer_laws.proofs.Counts.{same_name, equal_names, bytes_eq-sym}
+use Rattle.elf_object.specs.Linked.{or_else, veneer_of, place_in, named_in, place_named, place_of, reloc_place, with_reloc, linked_text, resolved, with_bytes, register_at}
+use Rattle.veneer_laws.proofs.Counts.{equal_names, bytes_eq-sym}
 use Rattle.link_laws.specs.Resolve.{with_place, linked_by}
 use Rattle.link_laws.proofs.Choices.{or_else_assoc, or_else_none, fold_same}
 use Rattle.indexmap.specs.IndexMap.{insert_entry}

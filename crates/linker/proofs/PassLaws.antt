@@ -1,11 +1,11 @@
 -- What the passes make is the ROM that is to be linked, and objects that can be linked are passed on from pass to pass.
-use Rattle.std.proofs.Common.{◌≡◌, ◌≢◌, ℕ, ◌+◌, ◌%◌, ◌<◌, ◌≤◌, ◌^◌, ◌&&◌, Bool, true, false, List, [], ◌∷◌, ◌++◌, length, map, get_or, flat_map, All, AllPairs, Contains, Option, Some, None, Ok, unwrap_or, codes, refl, sym, ap, ◌∙◌, subst, arith, lt-ltb}
+use Rattle.std.proofs.Common.{◌≡◌, ◌≢◌, ℕ, ◌+◌, ◌%◌, ◌<◌, ◌≤◌, ◌^◌, ◌&&◌, true, List, [], ◌∷◌, ◌++◌, length, map, get_or, flat_map, All, AllPairs, Contains, Option, Some, None, Ok, unwrap_or, codes, refl, sym, ap, ◌∙◌, subst, arith}
 use Rattle.std.specs.Prelude.{nat_lt, nat_le, ◌==◌}
 use Rattle.std.specs.List.{list_all}
 use Rattle.std.proofs.lemmas.Bool.Decides.{nat_tests}
 use Rattle.std.proofs.lemmas.List.Elements.{All-weaker, All-map}
 use Rattle.std.proofs.lemmas.List.Sums.{list_all-from_AllPass}
-use Rattle.cm_base.specs.declared.regions.TheConstants.{SECURE_ROM, NSC}
+use Rattle.cm_base.specs.declared.regions.TheConstants.{NSC}
 use Rattle.ns_types.specs.Platform.{row_size}
 use Rattle.ns_types.specs.declared.event.Veneer.{Veneer}
 use Rattle.elf32.specs.Tables.{padded}
@@ -18,24 +18,23 @@ use Rattle.elf_object.specs.File.{CanWrite}
 use Rattle.elf_object.specs.CanLink.{HasValue, ObjectCanLink, IsCode, definitions, CanLink}
 use Rattle.elf_object.specs.Reading.{IsObjectFile, object_in}
 use Rattle.elf_object.proofs.ReadBack.{object_in-object_file}
-use Rattle.elf_object.specs.Linked.{linked_text}
 use Rattle.elf_object.specs.Placed.{vectors, veneer_code, twin, Placed}
 use Rattle.ns_types.specs.declared.event.Veneers.{Veneers}
 use Rattle.veneer_link.specs.Assign.{place_count, places_from, is_place, Assigns, IsAssigned}
 use Rattle.veneer_laws.specs.Veneers.{AreVeneersOf}
 use Rattle.veneer_laws.proofs.Assigned.{assigned}
 use Rattle.link_laws.specs.Resolve.{Reaches}
-use Rattle.link_laws.specs.Sites.{sited, first_init, behind_inits}
+use Rattle.link_laws.specs.Sites.{sited}
 use Rattle.link_laws.specs.Rom.{named, init_part, gate, gates, filled, front, veneer_at, linked_rom, linked_symbols, CanMake, LeadsToCode}
 use Rattle.link_laws.specs.Rom as rom
 use Rattle.link_laws.proofs.Choices.{flat_map_same}
-use Rattle.link_laws.proofs.SiteLaws.{IsSited, Fits, are_sited, each}
+use Rattle.link_laws.proofs.SiteLaws.{IsSited, are_sited, each}
 use Rattle.link_laws.proofs.CodeLaws.{all_fit, reach_veneers, reached, code_there, each_reaches, twin_there, leads}
 use Rattle.link_laws.proofs.RomLaws.{front_low, placed}
 use Rattle.link_laws.proofs.TextLaws.{and_left, and_right, less}
 use Rattle.veneer_laws.proofs.Places.{equal_numbers}
 use Rattle.linker.specs.declared.driver.Linked.{Linked}
-use Rattle.linker.specs.Table.{Names, found, defined, veneer_names, places_of, is_address, have_addresses}
+use Rattle.linker.specs.Table.{defined, veneer_names, is_address, have_addresses}
 use Rattle.linker.specs.Passes.{place_named, text_part, gate_at, symbols_of_veneer, front_by, rom_by, CanPut, CanLead, CanPass, IsMade, IsLinked, Links}
 use Rattle.linker.specs.Passes as passes
 use Rattle.linker.proofs.NamesLaws.{name_found, number_place, text_same}

@@ -6,7 +6,6 @@ use Rattle.ns_types.specs.Platform.{row_size}
 use Rattle.ns_types.specs.declared.event.Veneer.{Veneer}
 use Rattle.elf32.specs.Tables.{padded}
 use Rattle.elf_object.specs.declared.object.Object.{Object}
-use Rattle.elf_object.specs.declared.object.Reloc.{Reloc}
 use Rattle.elf_object.specs.declared.object.Sited.{Sited}
 use Rattle.elf_object.specs.declared.object.Symbol.{Symbol}
 use Rattle.elf_object.specs.declared.object.Home.TheVariants.{Absolute}

@@ -1,5 +1,5 @@
 -- The places of symbols by their names, as the linker finds them (System V ABI, Symbol Table).
-use Rattle.std.specs.Prelude.{ℕ, ◌+◌, ◌^◌, ◌&&◌, Bool, true, nat_lt, cond, List, [], ◌∷◌, ◌++◌, length, map, bytes_eq, Option, Some, None, is_some, unwrap_or}
+use Rattle.std.specs.Prelude.{ℕ, ◌+◌, ◌^◌, Bool, true, nat_lt, cond, List, [], ◌∷◌, ◌++◌, map, bytes_eq, Option, Some, None, is_some, unwrap_or}
 use Rattle.std.specs.List.{fold, list_all}
 use Rattle.ns_types.specs.declared.event.Veneer.{Veneer}
 use Rattle.elf_object.specs.declared.object.Home.{Home}

@@ -3,7 +3,7 @@ use Rattle.elf_object.specs.Reading.{object_in}
 use Rattle.link_laws.specs.Sites.{sited, used}
 use Rattle.linker.specs.Table.{veneer_names, defined}
 use Rattle.linker.specs.Passes.{symbols_of_veneer}
-use Rattle.linker.proofs.MadeLaws.{put_here, lead_here, start_here, stop_here, low_here, inits_here, made_here}
+use Rattle.linker.proofs.MadeLaws.{put_here, lead_here, stop_here, low_here, made_here}
 use Rattle.linker.proofs.driver.made_of.Goals as goal
 
 pub rom_of-requires-clause-put : goal.rom_of-requires-clause-put
