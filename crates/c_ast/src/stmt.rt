@@ -114,8 +114,13 @@ pub enum External {
     Function(Boxed<Function>),
 }
 
-/// A source.
-#[derive(Drop)]
+/// A source. Its drop is written by hand, so that a crate that lets a unit go doesn't prove those of all trees in it.
 pub struct Unit {
     pub parts: List<External>,
+}
+
+impl Drop for Unit {
+    fn drop(self) {
+        let Unit { parts: _parts } = self;
+    }
 }
