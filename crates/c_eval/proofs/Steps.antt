@@ -1,11 +1,16 @@
 -- The steps of a run, one equation each.
-use Rattle.std.proofs.Common.{◌≡◌, ◌≢◌, ℕ, zero, suc, ◌+◌, ◌-◌, ◌*◌, ◌<◌, ◌≤◌, Bool, true, false, cond, ltb, List, [], ◌∷◌, length, refl, ap, sym, subst, ◌∙◌, rules, arith, Option, Some, None, slice_get, slice_index, take}
+use Rattle.std.proofs.Common.{◌≡◌, ◌≢◌, ℕ, zero, suc, ◌+◌, ◌-◌, ◌*◌, ◌<◌, ◌≤◌, Bool, true, false, not, cond, ltb, nat_lt, List, [], ◌∷◌, drop, length, map, refl, ap, sym, subst, ◌∙◌, rules, arith, Option, Some, None, option_map, slice_get, slice_index, take, unwrap_or}
 use Rattle.std.specs.Prelude.{Result, Ok, Err}
 use Rattle.std.proofs.Math.Path.{fun_ext}
+use Rattle.std.specs.List.{position_or_len}
 use Rattle.std.proofs.lemmas.Bool.{lt-ltb, le-ltb}
+use Rattle.std.proofs.lemmas.Grind.{common_steps}
+use Rattle.std.proofs.lemmas.List.{drop-map, length-map}
+use Rattle.std.proofs.lemmas.List.Sums.{prefix_len-le-length}
 use Rattle.ns_types.specs.Boundary.{acted, eight_zeros, goes_of, in_four, kept_of}
 use Rattle.ns_types.specs.Platform.{aligned}
 use Rattle.ns_types.specs.declared.event.End.TheVariants as end
+use Rattle.ns_types.specs.declared.goes.Goes.{Goes}
 use Rattle.ns_types.specs.declared.goes.Goes.TheVariants as goes
 use Rattle.cm_base.specs.declared.regions.TheConstants.{SECURE_DATA}
 use Rattle.cm_base.specs.declared.stop.Stop.{Stop}
@@ -24,10 +29,13 @@ use Rattle.c_mean.specs.Parts.{called, chosen, closing}
 use Rattle.c_mean.specs.Values.{converted_as}
 use Rattle.c_mean.specs.Exprs.{Around, sense}
 use Rattle.c_mean.specs.Homes.{block_bytes}
-use Rattle.c_mean.specs.Calls.{activation, begun, entry_functions, first_values, inside, need, result, result_as, runs}
+use Rattle.c_mean.specs.Calls.{activation, begun, entry_functions, first_values, inside, need, on_function, result, result_as, runs}
+use Rattle.c_mean.specs.Stmts.{Arm, arm, skipped}
+use Rattle.c_tree.specs.declared.stmt.Part.{Part as SwitchPart}
+use Rattle.c_world.specs.declared.live.Live.{Live}
 use Rattle.c_world.specs.declared.halt.Halt.{Halt}
 use Rattle.c_world.specs.declared.halt.Halt.TheVariants as halts
-use Rattle.c_world.specs.Seen.{Gives, IsOver, IsStop, Leaves}
+use Rattle.c_world.specs.Seen.{Gives, IsOver, IsStop, Leaves, Turned, seen}
 use Rattle.c_world.specs.declared.plan.At.{At as Place}
 use Rattle.c_world.specs.declared.plan.Gives.TheVariants as gives
 use Rattle.c_world.specs.declared.plan.Plan.{Plan}
@@ -35,7 +43,7 @@ use Rattle.c_world.specs.Here.{here, call_at, entering}
 use Rattle.c_world.specs.Plans.{finished, gives_by, gives_of, narrowed_or, plan_of}
 use Rattle.c_world.specs.Changes.{cleared_in}
 use Rattle.c_world.specs.Setups.{Setup, enters, function_at}
-use Rattle.c_eval.specs.Steps.{activated, arrived, begins_at, block_end, called_at, called_out_at, chain_at, crossing, entry_at, phase_at, runs_at}
+use Rattle.c_eval.specs.Steps.{Chained, activated, arrived, begins_at, block_end, called_at, called_out_at, chain_at, crossing, entry_at, phase_at, runs_at}
 
 pub chosen_on : {A : Type 0} (x : ℕ) (on off : A) → x ≢ 0 → chosen x on off ≡ on
 chosen_on zero on off h = absurd (h refl)
@@ -108,14 +116,16 @@ activation_stops s d from_ns load block f args w is = without_room (ltb SECURE_D
 
 -- ---- calls
 
-pub call_spent : (s : Setup) (from_ns : Bool) (load top : ℕ) (f : Option TFunction) (args : List ℕ) (w : World) → call_at s 0 from_ns load top f args w ≡ Over end.Spent w
+pub call_spent : (s : Setup) (deep : ℕ) (from_ns : Bool) (load top : ℕ) (f : Option TFunction) (args : List ℕ) (w : World) → deep ≡ 0 → call_at s deep from_ns load top f args w ≡ Over end.Spent w
 unfolding call_at
-call_spent s from_ns load top f args w = refl
+call_spent s zero from_ns load top f args w none = refl
+call_spent s (suc d) from_ns load top f args w none = absurd (omega (arith, none))
 
-pub call_of_none : (s : Setup) (deep : ℕ) (from_ns : Bool) (load top : ℕ) (args : List ℕ) (w : World) → 0 < deep → call_at s deep from_ns load top None args w ≡ Over end.Stopped w
+pub call_of_none : (s : Setup) (deep : ℕ) (from_ns : Bool) (load top : ℕ) (o : Option TFunction) (args : List ℕ) (w : World) → 0 < deep → o ≡ None
+    → call_at s deep from_ns load top o args w ≡ Over end.Stopped w
 unfolding call_at
-call_of_none s zero from_ns load top args w some = absurd (omega arith)
-call_of_none s (suc d) from_ns load top args w some = refl
+call_of_none s zero from_ns load top o args w some none = absurd (omega (arith, some))
+call_of_none s (suc d) from_ns load top o args w some none = ap (λ (q : Option TFunction). on_function q w (λ g. activation s.program (enters s) s.turns (call_at s d) from_ns (load + need g) top g args w)) none
 
 pub call_enters : (s : Setup) (deep : ℕ) (from_ns : Bool) (load top : ℕ) (f : TFunction) (args : List ℕ) (w : World) → 0 < deep
     → call_at s deep from_ns load top (Some f) args w ≡ activated s (deep - 1) from_ns (load + need f) top f args w
@@ -218,19 +228,20 @@ enter_activates s deep from_ns load top o f plan args w v r some is planned give
     (subst (λ (q : Outcome). Gives r v q) (sym (call_enters s deep from_ns load top f args w some))
     (subst (λ (q : Plan). Gives r v (activated s (deep - 1) from_ns (load + q.need) top f args w)) planned gives))
 
-pub activate_begins : (s : Setup) (d : ℕ) (from_ns : Bool) (load block top : ℕ) (plan : Plan) (f : TFunction) (args : List ℕ) (w u v : World) (r : Result ℕ Halt)
-    → plan ≡ plan_of f → block_end block plan.bytes ≡ Some top → u ≡ reach load w
+pub activate_begins : (s : Setup) (d : ℕ) (from_ns : Bool) (load sum block top : ℕ) (plan : Plan) (f : TFunction) (args : List ℕ) (w u v : World) (r : Result ℕ Halt)
+    → plan ≡ plan_of f → load ≡ sum → block_end block plan.bytes ≡ Some top → u ≡ reach sum w
     → Gives r v (begins_at s plan (record { deep = d; load = load; block = block; top = top; from_ns = from_ns }) f args u)
-    → Gives r v (activated s d from_ns load block f args w)
-activate_begins s d from_ns load block top plan f args w u v r planned room reached gives =
+    → Gives r v (activated s d from_ns sum block f args w)
+activate_begins s d from_ns load sum block top plan f args w u v r planned summed room reached gives =
     let here_room : block_end block (block_bytes f) ≡ Some top = ap (λ (q : Plan). block_end block q.bytes) (sym planned) ∙ room in
-    subst (λ (q : Outcome). Gives r v q) (sym (activation_begins s d from_ns load block top f args w here_room))
-    (subst (λ (q : World). Gives r v (begins_at s (plan_of f) (record { deep = d; load = load; block = block; top = top; from_ns = from_ns }) f args q)) reached
-    (subst (λ (q : Plan). Gives r v (begins_at s q (record { deep = d; load = load; block = block; top = top; from_ns = from_ns }) f args u)) planned gives))
+    subst (λ (q : Outcome). Gives r v q) (sym (activation_begins s d from_ns sum block top f args w here_room))
+    (subst (λ (q : World). Gives r v (begins_at s (plan_of f) (record { deep = d; load = sum; block = block; top = top; from_ns = from_ns }) f args q)) reached
+    (subst (λ (n : ℕ). Gives r v (begins_at s (plan_of f) (record { deep = d; load = n; block = block; top = top; from_ns = from_ns }) f args u)) summed
+    (subst (λ (q : Plan). Gives r v (begins_at s q (record { deep = d; load = load; block = block; top = top; from_ns = from_ns }) f args u)) planned gives)))
 
 stops_over : (h : Halt) (why : Stop) (u v : World) → IsStop h why u v → IsOver h v (stop_with why u)
 stops_over halts.NoMemory why u v is = tt
-stops_over (halts.Over e) why u v is = over_is e v (emit_plain (c.Stopped why) u) is.0 is.1
+stops_over (halts.Over e) why u v is = sym (over_is e v (emit_plain (c.Stopped why) u) is.0 is.1)
 
 pub activate_stops : (s : Setup) (d : ℕ) (from_ns : Bool) (load block : ℕ) (plan : Plan) (f : TFunction) (args : List ℕ) (w u v : World) (h : Halt)
     → plan ≡ plan_of f → block_end block plan.bytes ≡ None → u ≡ reach load w → IsStop h DataStack u v
@@ -317,5 +328,131 @@ pub crossing_stops : (s : Setup) (at : Place) (next : World → Outcome) (t : Tu
     → crossing s at next t rest n w ≡ Over x u
 unfolding crossing
 crossing_stops s at next t rest n w u x is = is _
+
+crossing_over : (s : Setup) (at : Place) (next : World → Outcome) (t : Turn) (rest : List Turn) (n : ℕ) (w u : World) (h : Halt) → Turned {A = Unit {0}} (Err h) t rest w u
+    → IsOver h u (crossing s at next t rest n w)
+crossing_over s at next t rest n w u halts.NoMemory is = tt
+crossing_over s at next t rest n w u (halts.Over x) is = crossing_stops s at next t rest n w u x is
+
+pub crossing_halts : (s : Setup) (at : Place) (next : World → Outcome) (t : Turn) (rest : List Turn) (n : ℕ) (w u : World) (h : Halt) → Turned {A = Unit {0}} (Err h) t rest w u
+    → IsOver h u (crossing s at next t rest n w)
+crossing_halts s at next t rest n w u h is = crossing_over s at next t rest n w u h is
+
+pub crossing_goes : (s : Setup) (at : Place) (next : World → Outcome) (t : Turn) (rest : List Turn) (exit : ℕ) (kept : List ℕ) (n : ℕ) (g : Goes) (args : List ℕ) (w u v : World) (r : Result (Option ℕ) Halt)
+    → (u ≡ turned t rest (acted t.items w.memory.ns_ram).ram w) × ((acted t.items w.memory.ns_ram).stop ≡ None)
+    → exit ≡ aligned 2 t.lr → kept ≡ kept_of t → g ≡ goes_of (enters s) t.target → args ≡ take 4 t.r
+    → Chained r next v (chain_at s at next exit kept n g args u) → Chained r next v (crossing s at next t rest n w)
+crossing_goes s at next t rest exit kept n g args w u v r is exits keeps goes four chained =
+    subst (λ (q : Outcome). Chained r next v q) (sym (crossing_on s at next t rest n w u is))
+    (subst (λ (q : ℕ). Chained r next v (chain_at s at next q (kept_of t) n (goes_of (enters s) t.target) (take 4 t.r) u)) exits
+    (subst (λ (q : List ℕ). Chained r next v (chain_at s at next exit q n (goes_of (enters s) t.target) (take 4 t.r) u)) keeps
+    (subst (λ (q : Goes). Chained r next v (chain_at s at next exit kept n q (take 4 t.r) u)) goes
+    (subst (λ (q : List ℕ). Chained r next v (chain_at s at next exit kept n g q u)) four chained))))
+
+-- ---- turns of a chain
+
+pub seen_entries : (script : List Turn) (x : Live) → (seen script x).entries ≡ x.entries
+unfolding seen
+seen_entries script x = refl
+
+-- a chain that stands before an entry
+before_entry : (s : Setup) (at : Place) (next : World → Outcome) (exit : ℕ) (kept : List ℕ) (n e : ℕ) (g : Goes) (args : List ℕ) (w : World) (o : Outcome)
+    → g ≡ goes.Enter e → o ≡ chain_at s at next exit kept n g args w → o ≡ chain_at s at next exit kept n (goes.Enter e) args w
+before_entry s at next exit kept n e g args w o is so_far = so_far ∙ ap (λ (q : Goes). chain_at s at next exit kept n q args w) is
+
+pub chain_stops : (s : Setup) (at : Place) (next : World → Outcome) (exit : ℕ) (kept : List ℕ) (n e : ℕ) (g : Goes) (args : List ℕ) (w : World) (o : Outcome)
+    → g ≡ goes.Enter e → n ≡ 0 → o ≡ chain_at s at next exit kept n g args w → o ≡ Over end.Spent w
+chain_stops s at next exit kept n e g args w o is none so_far =
+    before_entry s at next exit kept n e g args w o is so_far
+    ∙ ap (λ (k : ℕ). chain_at s at next exit kept k (goes.Enter e) args w) none
+    ∙ chain_spent s at next exit kept e args w
+
+pub chain_fills : (s : Setup) (at : Place) (next : World → Outcome) (exit : ℕ) (kept : List ℕ) (n e : ℕ) (g : Goes) (args : List ℕ) (w : World) (o : Outcome)
+    → g ≡ goes.Enter e → s.turns ≤ w.entries → o ≡ chain_at s at next exit kept n g args w → o ≡ Over end.Spent w
+chain_fills s at next exit kept n e g args w o is full so_far =
+    before_entry s at next exit kept n e g args w o is so_far ∙ chain_full s at next exit kept n e args w full
+
+over_by : (h : Halt) (v : World) (o p : Outcome) → o ≡ p → IsOver h v p → IsOver h v o
+over_by h v o p same over = subst (λ (q : Outcome). IsOver h v q) (sym same) over
+
+pub chain_over : (s : Setup) (at : Place) (next : World → Outcome) (exit : ℕ) (kept : List ℕ) (n e : ℕ) (g : Goes) (args : List ℕ) (w v : World) (h : Halt) (o : Outcome)
+    → g ≡ goes.Enter e → 0 < n → w.entries < s.turns → ((go : ℕ → World → Outcome) → IsOver h v (entry_at s at go e args exit kept w))
+    → o ≡ chain_at s at next exit kept n g args w → IsOver h v o
+chain_over s at next exit kept n e g args w v h o is some bound over so_far =
+    over_by h v o _
+    (before_entry s at next exit kept n e g args w o is so_far ∙ chain_on s at next exit kept n e args w _ some bound refl)
+    (over (λ r u. chain_at s at next exit kept (n - 1) (goes_of (enters s) exit) (in_four (r ∷ [])) u))
+
+pub chain_steps : (s : Setup) (at : Place) (next : World → Outcome) (exit : ℕ) (kept : List ℕ) (n e r : ℕ) (g to : Goes) (args : List ℕ) (w v : World) (o : Outcome)
+    → g ≡ goes.Enter e → 0 < n → w.entries < s.turns → ((go : ℕ → World → Outcome) → entry_at s at go e args exit kept w ≡ go r v)
+    → to ≡ goes_of (enters s) exit → o ≡ chain_at s at next exit kept n g args w → o ≡ chain_at s at next exit kept (n - 1) to (r ∷ 0 ∷ 0 ∷ 0 ∷ []) v
+chain_steps s at next exit kept n e r g to args w v o is some bound gives goes so_far =
+    before_entry s at next exit kept n e g args w o is so_far
+    ∙ chain_on s at next exit kept n e args w _ some bound refl
+    ∙ gives (λ x u. chain_at s at next exit kept (n - 1) (goes_of (enters s) exit) (in_four (x ∷ [])) u)
+    ∙ ap (λ (q : Goes). chain_at s at next exit kept (n - 1) q (r ∷ 0 ∷ 0 ∷ 0 ∷ []) v) (sym goes)
+
+arrives_at : (s : Setup) (at : Place) (next : World → Outcome) (exit : ℕ) (kept : List ℕ) (n : ℕ) (g : Goes) (args : List ℕ) (w : World)
+    → ((x : ℕ) → g ≡ goes.Enter x → ⊥) → chain_at s at next exit kept n g args w ≡ arrived next g (slice_index args 0) w
+arrives_at s at next exit kept n (goes.Enter e) args w none = absurd (none e refl)
+arrives_at s at next exit kept n goes.Return args w none = chain_returns s at next exit kept n args w
+arrives_at s at next exit kept n goes.Turn args w none = chain_turns s at next exit kept n args w
+arrives_at s at next exit kept n goes.EntryPoint args w none = chain_at_secure s at next exit kept n args w
+arrives_at s at next exit kept n goes.Astray args w none = chain_astray s at next exit kept n args w
+
+pub chain_arrives : (s : Setup) (at : Place) (next : World → Outcome) (exit : ℕ) (kept : List ℕ) (n : ℕ) (g : Goes) (args : List ℕ) (w v : World) (r : Result (Option ℕ) Halt) (o : Outcome)
+    → ((x : ℕ) → g ≡ goes.Enter x → ⊥) → o ≡ chain_at s at next exit kept n g args w → Chained r next v (arrived next g (slice_index args 0) w) → Chained r next v o
+chain_arrives s at next exit kept n g args w v r o none so_far chained =
+    subst (λ (q : Outcome). Chained r next v q) (sym (so_far ∙ arrives_at s at next exit kept n g args w none)) chained
+
+-- ---- turns of a phase
+
+pub phase_over : (s : Setup) (at : Place) (fuel n : ℕ) (w v : World) (t : Turn) (rest : List Turn) (h : Halt) (o : Outcome)
+    → 0 < fuel → w.turns ≡ t ∷ rest → n ≡ s.turns * fuel → ((next : World → Outcome) → IsOver h v (crossing s at next t rest n w))
+    → o ≡ phase_at s at fuel w → IsOver h v o
+phase_over s at fuel n w v t rest h o some turns many over so_far =
+    over_by h v o _ (so_far ∙ phase_on s at fuel n w t rest _ some turns many refl) (over (phase_at s at (fuel - 1)))
+
+pub phase_gives : (s : Setup) (at : Place) (fuel n x : ℕ) (w v : World) (t : Turn) (rest : List Turn) (crossed : Option ℕ) (o : Outcome)
+    → 0 < fuel → w.turns ≡ t ∷ rest → n ≡ s.turns * fuel → crossed ≡ Some x
+    → ((next : World → Outcome) → Chained (Ok crossed) next v (crossing s at next t rest n w)) → o ≡ phase_at s at fuel w → o ≡ Gave x v
+phase_gives s at fuel n x w v t rest crossed o some turns many is chained so_far =
+    so_far ∙ phase_on s at fuel n w t rest _ some turns many
+    (subst (λ (q : Option ℕ). Chained (Ok q) (phase_at s at (fuel - 1)) v (crossing s at (phase_at s at (fuel - 1)) t rest n w)) is (chained (phase_at s at (fuel - 1))))
+
+pub phase_goes : (s : Setup) (at : Place) (fuel n : ℕ) (w v : World) (t : Turn) (rest : List Turn) (crossed : Option ℕ) (o : Outcome)
+    → 0 < fuel → w.turns ≡ t ∷ rest → n ≡ s.turns * fuel → crossed ≡ None
+    → ((next : World → Outcome) → Chained (Ok crossed) next v (crossing s at next t rest n w)) → o ≡ phase_at s at fuel w → o ≡ phase_at s at (fuel - 1) v
+phase_goes s at fuel n w v t rest crossed o some turns many is chained so_far =
+    so_far ∙ phase_on s at fuel n w t rest _ some turns many
+    (subst (λ (q : Option ℕ). Chained (Ok q) (phase_at s at (fuel - 1)) v (crossing s at (phase_at s at (fuel - 1)) t rest n w)) is (chained (phase_at s at (fuel - 1))))
+
+-- ---- functions by their numbers
+
+pub plan_is : (o : Option TFunction) (f : TFunction) (plan : Plan) → Some f ≡ o → Some plan ≡ option_map plan_of o → plan ≡ plan_of f
+plan_is o f plan there planned =
+    let is : Some plan ≡ Some (plan_of f) = planned ∙ ap (λ (q : Option TFunction). option_map plan_of q) (sym there) in cc
+
+-- ---- switches
+
+at_most : (b : Bool) (k d many : ℕ) → k ≤ many → d ≤ many → unwrap_or (cond b (Some k) None) d ≤ many
+at_most true k d many low lower = low
+at_most false k d many low lower = lower
+
+skip_at_most : (x : ℕ) (arms : List Arm) → skipped x arms ≤ length arms
+skip_at_most x arms =
+    at_most (nat_lt (position_or_len (λ (a : Arm). a.is_case x) arms) (length arms)) _ _ (length arms) (prefix_len-le-length (λ (a : Arm). not (a.is_case x)) arms) (prefix_len-le-length (λ (a : Arm). not a.is_default) arms)
+
+pub skipped_within : (x k : ℕ) (parts : List SwitchPart) → k ≡ skipped x (map arm parts) → k ≤ length parts
+skipped_within x k parts is =
+    let low : skipped x (map arm parts) ≤ length (map arm parts) = skip_at_most x (map arm parts) in
+    let same : length (map arm parts) ≡ length parts = length-map parts arm in
+    omega (arith, low, same, is)
+
+whole : (k : ℕ) (parts : List SwitchPart) → take (length parts - k) (drop k parts) ≡ drop k parts
+whole k parts = grind (arith, common_steps)
+
+pub entered_are : (x k : ℕ) (parts : List SwitchPart) → k ≡ skipped x (map arm parts) → map arm (take (length parts - k) (drop k parts)) ≡ drop (skipped x (map arm parts)) (map arm parts)
+entered_are x k parts is = ap (λ (ps : List SwitchPart). map arm ps) (whole k parts) ∙ sym (drop-map arm k parts) ∙ ap (λ (n : ℕ). drop n (map arm parts)) is
 
 pub ruleset steps = (chosen_on, sense_ctype)

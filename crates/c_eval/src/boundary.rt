@@ -1,6 +1,6 @@
 //! Non-secure calls, and what Non-secure code does between two hand-overs.
 
-ghost use Rattle.std.specs.Prelude.{◌≡◌, ◌+◌, ◌*◌, ◌<◌, ℕ, List, drop, length, option_copied};
+ghost use Rattle.std.specs.Prelude.{◌≡◌, ◌+◌, ◌*◌, ◌<◌, ℕ, IfSome, List, drop, length, option_copied, slice_index};
 ghost use Rattle.ns_types.specs.CRun.{World, Outcome, Over};
 ghost use Rattle.ns_types.specs.Turns as turns;
 ghost use Rattle.c_eval.specs.Steps as spec;
@@ -76,9 +76,14 @@ fn turns_left(setup: &Setup<'_>, live: &Live) -> usize
 /// The next turn of the script.
 #[tactic(auto, unfolding(c_world::specs::Seen::seen))]
 fn next_turn<'s>(setup: &'s Setup<'_>, live: &Live) -> Option<&'s Turn>
-    ensures { spec.IsNext (option_copied result) (world.seen setup.now.script live.now).turns (drop (live.now.next + 1) setup.now.script) }
+    ensures next { spec.IsNext (option_copied result) (world.seen setup.now.script live.now).turns (drop (live.now.next + 1) setup.now.script) }
+    ensures room { IfSome result (λ _. live.now.next < 18446744073709551615) }
 {
-    setup.script().get(live.next)
+    let script = setup.script();
+    if live.next >= script.len() {
+        return None;
+    }
+    script.get(live.next)
 }
 
 /// Non-secure code's move, turn by turn; fuel counts the turns that it may take.
@@ -182,7 +187,7 @@ pub fn chain(
         goes = setup.goes(exit);
         args = [r, 0, 0, 0];
     }
-    arrive(live, goes, args[0])
+    arrive(live, goes, args)
 }
 
 /// One entry, with its result.
@@ -209,13 +214,13 @@ fn one_entry(
     Ok(r)
 }
 
-/// What happens where a branch goes that enters no entry.
-fn arrive(live: &mut Live, goes: Goes, r0: u32) -> Result<Option<u32>, Halt>
+/// What happens where a branch goes that enters no entry, with r0 to r3.
+fn arrive(live: &mut Live, goes: Goes, args: [u32; 4]) -> Result<Option<u32>, Halt>
     ensures { (script : List turns.Turn) (next : World → Outcome)
-        → spec.Chained result next (world.seen script live.new) (spec.arrived next goes r0 (world.seen script live.old)) }
+        → spec.Chained result next (world.seen script live.new) (spec.arrived next goes (slice_index args 0) (world.seen script live.old)) }
 {
     match goes {
-        Goes::Return => Ok(Some(r0)),
+        Goes::Return => Ok(Some(args[0])),
         Goes::Turn => Ok(None),
         Goes::EntryPoint => Err(stop(live, Stop::EntryPoint)),
         Goes::Astray => Err(stop(live, Stop::Astray)),

@@ -1,8 +1,8 @@
 //! Statements.
 
-ghost use Rattle.std.specs.Prelude.{◌≡◌, map, option_map};
+ghost use Rattle.std.specs.Prelude.{◌≡◌, drop, map, option_map};
 ghost use Rattle.c_eval.specs.Steps as spec;
-ghost use Rattle.c_mean.specs.Stmts.{does, arm};
+ghost use Rattle.c_mean.specs.Stmts.{arm, does, skipped};
 ghost use Rattle.c_tree.specs.declared.stmt.Part.TheOpen as s;
 ghost use Rattle.c_world.specs.Here.{here};
 ghost use Rattle.c_world.specs.Seen as world;
@@ -439,6 +439,15 @@ fn exec_part(
     }
 }
 
+/// The parts of a `switch` from the one on where control enters for a value.
+#[tactic(auto, using(crate::proofs::Steps::skipped_within))]
+fn parts_from(x: u32, parts: &[Part]) -> &[Part]
+    ensures { map arm result.now ≡ drop (skipped x (map arm parts.now)) (map arm parts.now) }
+{
+    let k = skipped(x, parts);
+    &parts[k..]
+}
+
 /// `switch`.
 #[cycle(run)]
 #[tactic(auto, using(crate::proofs::Steps::steps))]
@@ -457,8 +466,8 @@ fn switch(
         (spec.stmt_at setup.now plan.now at.now (s.Switch v.now (map arm parts.now)) locals.old (world.seen setup.now.script live.old)) }
 {
     let x = value(alloc, setup, plan, at, left, live, locals, v)?;
-    let k = skipped(x, parts);
-    match parts_in_order(alloc, setup, plan, at, left, live, locals, &parts[k..])? {
+    let entered = parts_from(x, parts);
+    match parts_in_order(alloc, setup, plan, at, left, live, locals, entered)? {
         Flow::Next => Ok(Flow::Next),
         Flow::Break => Ok(Flow::Next),
         Flow::Continue => Ok(Flow::Continue),

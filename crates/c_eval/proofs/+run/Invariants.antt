@@ -183,9 +183,9 @@ invariant-boundary::phase-loop-fuel l =
 abbrev pub decreases-boundary::phase-loop-fuel : goal.decreases-boundary::phase-loop-fuel
 decreases-boundary::phase-loop-fuel l = l.fuel
 
-abbrev pub invariant-boundary::chain-loop-e : goal.invariant-boundary::chain-loop-e
-invariant-boundary::chain-loop-e l =
+abbrev pub invariant-boundary::chain-loop-goes : goal.invariant-boundary::chain-loop-goes
+invariant-boundary::chain-loop-goes l =
     (next : World → Outcome) → chain_at l.setup l.at next l.exit l.kept l.fn.n l.fn.goes l.fn.args (seen l.setup.script l.fn.live) ≡ chain_at l.setup l.at next l.exit l.kept l.n l.goes l.args (seen l.setup.script l.live)
 
-abbrev pub decreases-boundary::chain-loop-e : goal.decreases-boundary::chain-loop-e
-decreases-boundary::chain-loop-e l = l.n
+abbrev pub decreases-boundary::chain-loop-goes : goal.decreases-boundary::chain-loop-goes
+decreases-boundary::chain-loop-goes l = l.n
