@@ -25,17 +25,19 @@ use Rattle.c_types.specs.Kind.{Look, look, is_void, arithmetic}
 use Rattle.c_tree.specs.declared.expr.Expr.{Expr}
 use Rattle.c_tree.specs.declared.expr.ExprKind.TheFolds.{the_lemmas}
 use Rattle.c_tree.specs.declared.program.TFunction.{TFunction}
-use Rattle.c_mean.specs.Parts.{called, chosen, closing}
+use Rattle.c_mean.specs.declared.flow.Flow.{Flow}
+use Rattle.c_mean.specs.Parts.{Has, Out, after_switch, called, chosen, closing, in_order, then_with}
 use Rattle.c_mean.specs.Values.{converted_as}
 use Rattle.c_mean.specs.Exprs.{Around, sense}
 use Rattle.c_mean.specs.Homes.{block_bytes}
 use Rattle.c_mean.specs.Calls.{activation, begun, entry_functions, first_values, inside, need, on_function, result, result_as, runs}
-use Rattle.c_mean.specs.Stmts.{Arm, arm, skipped}
+use Rattle.c_mean.specs.Stmts.{Arm, arm, arms_from, skipped}
 use Rattle.c_tree.specs.declared.stmt.Part.{Part as SwitchPart}
+use Rattle.c_tree.specs.declared.stmt.Part.TheOpen as stmt
 use Rattle.c_world.specs.declared.live.Live.{Live}
 use Rattle.c_world.specs.declared.halt.Halt.{Halt}
 use Rattle.c_world.specs.declared.halt.Halt.TheVariants as halts
-use Rattle.c_world.specs.Seen.{Gives, IsOver, IsStop, Leaves, Turned, seen}
+use Rattle.c_world.specs.Seen.{Gives, IsOver, IsStop, Leaves, Stops, Turned, seen}
 use Rattle.c_world.specs.declared.plan.At.{At as Place}
 use Rattle.c_world.specs.declared.plan.Gives.TheVariants as gives
 use Rattle.c_world.specs.declared.plan.Plan.{Plan}
@@ -43,7 +45,7 @@ use Rattle.c_world.specs.Here.{here, call_at, entering}
 use Rattle.c_world.specs.Plans.{finished, gives_by, gives_of, narrowed_or, plan_of}
 use Rattle.c_world.specs.Changes.{cleared_in}
 use Rattle.c_world.specs.Setups.{Setup, enters, function_at}
-use Rattle.c_eval.specs.Steps.{Chained, activated, arrived, begins_at, block_end, called_at, called_out_at, chain_at, crossing, entry_at, phase_at, runs_at}
+use Rattle.c_eval.specs.Steps.{Chained, activated, arrived, begins_at, block_end, called_at, called_out_at, chain_at, crossing, entry_at, parts_at, phase_at, runs_at, stmt_at, value_at}
 
 pub chosen_on : {A : Type 0} (x : ℕ) (on off : A) → x ≢ 0 → chosen x on off ≡ on
 chosen_on zero on off h = absurd (h refl)
@@ -454,5 +456,27 @@ whole k parts = grind (arith, common_steps)
 
 pub entered_are : (x k : ℕ) (parts : List SwitchPart) → k ≡ skipped x (map arm parts) → map arm (take (length parts - k) (drop k parts)) ≡ drop (skipped x (map arm parts)) (map arm parts)
 entered_are x k parts is = ap (λ (ps : List SwitchPart). map arm ps) (whole k parts) ∙ sym (drop-map arm k parts) ∙ ap (λ (n : ℕ). drop n (map arm parts)) is
+
+-- a switch does its parts from the one on where control enters
+switch_does : (s : Setup) (plan : Plan) (at : Place) (v : Expr) (parts entered : List SwitchPart) (x : ℕ) (l m : List ℕ) (w u : World) → value_at s plan at v l w ≡ Has x m u
+    → map arm entered ≡ drop (skipped x (map arm parts)) (map arm parts) → stmt_at s plan at (stmt.Switch v (map arm parts)) l w ≡ then_with (parts_at s plan at entered m u) after_switch
+switch_does s plan at v parts entered x l m w u valued from =
+    ap (λ (o : Out ℕ). then_with o (λ y. arms_from (skipped y (map arm parts)) (map arm parts) (here s plan at))) valued
+    ∙ ap (λ (arms : List Arm). then_with (in_order (map (λ (a : Arm). a.does (here s plan at)) arms) m u) after_switch) (sym from)
+
+pub switch_goes : (s : Setup) (plan : Plan) (at : Place) (v : Expr) (parts entered : List SwitchPart) (x : ℕ) (l m n : List ℕ) (w u q : World) (flow done : Flow) → value_at s plan at v l w ≡ Has x m u
+    → map arm entered ≡ drop (skipped x (map arm parts)) (map arm parts) → parts_at s plan at entered m u ≡ Has flow n q → after_switch flow n q ≡ Has done n q
+    → stmt_at s plan at (stmt.Switch v (map arm parts)) l w ≡ Has done n q
+switch_goes s plan at v parts entered x l m n w u q flow done valued from did ends =
+    switch_does s plan at v parts entered x l m w u valued from ∙ ap (λ (o : Out Flow). then_with o after_switch) did ∙ ends
+
+stops_too : (h : Halt) (q : World) (o : Out Flow) → Stops h q o → Stops h q (then_with o after_switch)
+stops_too halts.NoMemory q o stops = tt
+stops_too (halts.Over e) q o stops = ap (λ (p : Out Flow). then_with p after_switch) stops
+
+pub switch_halts : (s : Setup) (plan : Plan) (at : Place) (v : Expr) (parts entered : List SwitchPart) (x : ℕ) (l m : List ℕ) (w u q : World) (h : Halt) → value_at s plan at v l w ≡ Has x m u
+    → map arm entered ≡ drop (skipped x (map arm parts)) (map arm parts) → Stops h q (parts_at s plan at entered m u) → Stops h q (stmt_at s plan at (stmt.Switch v (map arm parts)) l w)
+switch_halts s plan at v parts entered x l m w u q h valued from stops =
+    subst (λ (o : Out Flow). Stops h q o) (sym (switch_does s plan at v parts entered x l m w u valued from)) (stops_too h q (parts_at s plan at entered m u) stops)
 
 pub ruleset steps = (chosen_on, sense_ctype)

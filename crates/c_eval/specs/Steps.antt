@@ -8,7 +8,9 @@ use Rattle.ns_types.specs.Platform.{aligned}
 use Rattle.ns_types.specs.Turns.{Turn}
 use Rattle.ns_types.specs.declared.event.CEvent.TheVariants as c
 use Rattle.ns_types.specs.declared.event.End.TheVariants as end
+use Rattle.c_types.specs.declared.arith.Arith.TheVariants as arith
 use Rattle.c_types.specs.declared.ctype.CType.{CType}
+use Rattle.c_types.specs.Derived.{arith_type}
 use Rattle.c_tree.specs.declared.expr.Expr.{Expr}
 use Rattle.c_tree.specs.declared.expr.ExprKind.TheOpen.{ExprKind-F}
 use Rattle.c_tree.specs.declared.program.TFunction.{TFunction}
@@ -44,6 +46,10 @@ place_at s plan at e = (sense e).place (here s plan at)
 -- one layer of an expression
 abbrev pub kind_at : Setup → Plan → Place → ExprKind-F (CType → Meant) Sense → CType → Part ℕ
 kind_at s plan at k t = (kind_step k t).value (here s plan at)
+
+-- the same of a kind whose meaning doesn't look at the type of the whole
+abbrev pub any_at : Setup → Plan → Place → ExprKind-F (CType → Meant) Sense → Part ℕ
+any_at s plan at k = kind_at s plan at k (arith_type arith.Int)
 
 abbrev pub values_at : Setup → Plan → Place → List Expr → Part (List ℕ)
 values_at s plan at es = values_from [] (map sense es) (here s plan at)

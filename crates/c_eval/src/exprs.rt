@@ -4,7 +4,6 @@ ghost use Rattle.std.specs.Prelude.{◌≡◌, map};
 ghost use Rattle.c_eval.specs.Steps as spec;
 ghost use Rattle.c_mean.specs.Exprs.{sense};
 ghost use Rattle.c_tree.specs.declared.expr.ExprKind.TheOpen as k;
-ghost use Rattle.c_types.specs.declared.ctype.CType.{CType};
 ghost use Rattle.c_world.specs.Seen as world;
 
 use crate::boundary::ns_value;
@@ -116,8 +115,8 @@ fn binary(
     a: &Expr,
     b: &Expr,
 ) -> Result<u32, Halt>
-    ensures { (t : CType) → world.Leaves result locals.new (world.seen setup.now.script live.new)
-        (spec.kind_at setup.now plan.now at.now (k.Binary op (sense a.now) (sense b.now)) t locals.old (world.seen setup.now.script live.old)) }
+    ensures { world.Leaves result locals.new (world.seen setup.now.script live.new)
+        (spec.any_at setup.now plan.now at.now (k.Binary op (sense a.now) (sense b.now)) locals.old (world.seen setup.now.script live.old)) }
 {
     let x = value(alloc, setup, plan, at, left, live, locals, a)?;
     let y = value(alloc, setup, plan, at, left, live, locals, b)?;
@@ -139,8 +138,8 @@ fn moved_pointer(
     b: &Expr,
     size: u32,
 ) -> Result<u32, Halt>
-    ensures { (t : CType) → world.Leaves result locals.new (world.seen setup.now.script live.new)
-        (spec.kind_at setup.now plan.now at.now (k.PtrAdd (sense a.now) (sense b.now) size) t locals.old (world.seen setup.now.script live.old)) }
+    ensures { world.Leaves result locals.new (world.seen setup.now.script live.new)
+        (spec.any_at setup.now plan.now at.now (k.PtrAdd (sense a.now) (sense b.now) size) locals.old (world.seen setup.now.script live.old)) }
 {
     let x = value(alloc, setup, plan, at, left, live, locals, a)?;
     let y = value(alloc, setup, plan, at, left, live, locals, b)?;
@@ -162,8 +161,8 @@ fn pointer_difference(
     b: &Expr,
     size: u32,
 ) -> Result<u32, Halt>
-    ensures { (t : CType) → world.Leaves result locals.new (world.seen setup.now.script live.new)
-        (spec.kind_at setup.now plan.now at.now (k.PtrDiff (sense a.now) (sense b.now) size) t locals.old (world.seen setup.now.script live.old)) }
+    ensures { world.Leaves result locals.new (world.seen setup.now.script live.new)
+        (spec.any_at setup.now plan.now at.now (k.PtrDiff (sense a.now) (sense b.now) size) locals.old (world.seen setup.now.script live.old)) }
 {
     let x = value(alloc, setup, plan, at, left, live, locals, a)?;
     let y = value(alloc, setup, plan, at, left, live, locals, b)?;
@@ -184,8 +183,8 @@ fn both(
     a: &Expr,
     b: &Expr,
 ) -> Result<u32, Halt>
-    ensures { (t : CType) → world.Leaves result locals.new (world.seen setup.now.script live.new)
-        (spec.kind_at setup.now plan.now at.now (k.And (sense a.now) (sense b.now)) t locals.old (world.seen setup.now.script live.old)) }
+    ensures { world.Leaves result locals.new (world.seen setup.now.script live.new)
+        (spec.any_at setup.now plan.now at.now (k.And (sense a.now) (sense b.now)) locals.old (world.seen setup.now.script live.old)) }
 {
     let x = value(alloc, setup, plan, at, left, live, locals, a)?;
     if x == 0 {
@@ -209,8 +208,8 @@ fn either(
     a: &Expr,
     b: &Expr,
 ) -> Result<u32, Halt>
-    ensures { (t : CType) → world.Leaves result locals.new (world.seen setup.now.script live.new)
-        (spec.kind_at setup.now plan.now at.now (k.Or (sense a.now) (sense b.now)) t locals.old (world.seen setup.now.script live.old)) }
+    ensures { world.Leaves result locals.new (world.seen setup.now.script live.new)
+        (spec.any_at setup.now plan.now at.now (k.Or (sense a.now) (sense b.now)) locals.old (world.seen setup.now.script live.old)) }
 {
     let x = value(alloc, setup, plan, at, left, live, locals, a)?;
     if x != 0 {
@@ -235,8 +234,8 @@ fn chosen(
     a: &Expr,
     b: &Expr,
 ) -> Result<u32, Halt>
-    ensures { (t : CType) → world.Leaves result locals.new (world.seen setup.now.script live.new)
-        (spec.kind_at setup.now plan.now at.now (k.Cond (sense c.now) (sense a.now) (sense b.now)) t locals.old (world.seen setup.now.script live.old)) }
+    ensures { world.Leaves result locals.new (world.seen setup.now.script live.new)
+        (spec.any_at setup.now plan.now at.now (k.Cond (sense c.now) (sense a.now) (sense b.now)) locals.old (world.seen setup.now.script live.old)) }
 {
     let x = value(alloc, setup, plan, at, left, live, locals, c)?;
     if x == 0 {
@@ -329,8 +328,8 @@ fn call(
     n: u32,
     args: &[Shared<Expr>],
 ) -> Result<u32, Halt>
-    ensures { (t : CType) → world.Leaves result locals.new (world.seen setup.now.script live.new)
-        (spec.kind_at setup.now plan.now at.now (k.Call n (map sense args.now)) t locals.old (world.seen setup.now.script live.old)) }
+    ensures { world.Leaves result locals.new (world.seen setup.now.script live.new)
+        (spec.any_at setup.now plan.now at.now (k.Call n (map sense args.now)) locals.old (world.seen setup.now.script live.old)) }
 {
     let xs = values(alloc, setup, plan, at, left, live, locals, args)?;
     call_value(alloc, setup, plan, at, left, live, n, xs.as_slice())
@@ -374,8 +373,8 @@ fn range(
     b: &Expr,
     c: &Expr,
 ) -> Result<u32, Halt>
-    ensures { (t : CType) → world.Leaves result locals.new (world.seen setup.now.script live.new)
-        (spec.kind_at setup.now plan.now at.now (k.Range (sense a.now) (sense b.now) (sense c.now)) t locals.old (world.seen setup.now.script live.old)) }
+    ensures { world.Leaves result locals.new (world.seen setup.now.script live.new)
+        (spec.any_at setup.now plan.now at.now (k.Range (sense a.now) (sense b.now) (sense c.now)) locals.old (world.seen setup.now.script live.old)) }
 {
     let x = value(alloc, setup, plan, at, left, live, locals, a)?;
     let y = value(alloc, setup, plan, at, left, live, locals, b)?;

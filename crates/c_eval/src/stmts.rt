@@ -1,10 +1,12 @@
 //! Statements.
 
-ghost use Rattle.std.specs.Prelude.{◌≡◌, drop, map, option_map};
+ghost use Rattle.std.specs.Prelude.{◌≡◌, ℕ, List, drop, map, option_map};
 ghost use Rattle.c_eval.specs.Steps as spec;
+ghost use Rattle.c_mean.specs.Parts.{Has, after_switch};
 ghost use Rattle.c_mean.specs.Stmts.{arm, does, skipped};
 ghost use Rattle.c_tree.specs.declared.stmt.Part.TheOpen as s;
 ghost use Rattle.c_world.specs.Here.{here};
+ghost use Rattle.ns_types.specs.CRun.{World};
 ghost use Rattle.c_world.specs.Seen as world;
 
 use crate::exprs::{less, value};
@@ -467,11 +469,19 @@ fn switch(
 {
     let x = value(alloc, setup, plan, at, left, live, locals, v)?;
     let entered = parts_from(x, parts);
-    match parts_in_order(alloc, setup, plan, at, left, live, locals, entered)? {
-        Flow::Next => Ok(Flow::Next),
-        Flow::Break => Ok(Flow::Next),
-        Flow::Continue => Ok(Flow::Continue),
-        Flow::Return(x) => Ok(Flow::Return(x)),
+    let flow = parts_in_order(alloc, setup, plan, at, left, live, locals, entered)?;
+    Ok(after_switch(flow))
+}
+
+/// How a `switch` ends whose parts end so: `break` leaves it (C11 6.8.6.3).
+fn after_switch(flow: Flow) -> Flow
+    ensures { (l : List ℕ) (w : World) → after_switch flow l w ≡ Has result l w }
+{
+    match flow {
+        Flow::Next => Flow::Next,
+        Flow::Break => Flow::Next,
+        Flow::Continue => Flow::Continue,
+        Flow::Return(x) => Flow::Return(x),
     }
 }
 

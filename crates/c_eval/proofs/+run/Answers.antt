@@ -1,8 +1,13 @@
-use Rattle.std.proofs.Common.{◌≡◌, ℕ, ◌+◌, ◌-◌, ◌*◌, ◌<◌, ◌≤◌, ap, arith, drop, rules, sym, ◌∙◌}
-use Rattle.c_world.specs.Seen.{IsOver, seen}
-use Rattle.c_world.specs.Setups.{function_at}
-use Rattle.c_eval.specs.Steps.{chain_at, crossing, entry_at, phase_at}
-use Rattle.c_eval.proofs.Steps.{activate_begins, activate_stops, begins, call_of_none, call_spent, calls_out, calls_value, chain_arrives, chain_fills, chain_over, chain_steps, chain_stops, crossing_goes, crossing_halts, enter_activates, entry_gives, entry_over, phase_gives, phase_goes, phase_over, phase_waits, plan_is, seen_entries}
+use Rattle.std.proofs.Common.{◌≡◌, ℕ, ◌+◌, ◌-◌, ◌*◌, ◌<◌, ◌≤◌, ap, arith, drop, map, rules, sym, ◌∙◌}
+use Rattle.ns_types.specs.Boundary.{goes_of}
+use Rattle.ns_types.specs.Platform.{aligned}
+use Rattle.ns_types.specs.Turns.{Turn}
+use Rattle.c_mean.specs.Stmts.{arm}
+use Rattle.c_tree.specs.declared.stmt.Part.TheOpen as stmt
+use Rattle.c_world.specs.Seen.{IsOver, Stops, seen}
+use Rattle.c_world.specs.Setups.{enters, function_at}
+use Rattle.c_eval.specs.Steps.{chain_at, crossing, entry_at, phase_at, stmt_at}
+use Rattle.c_eval.proofs.Steps.{activate_begins, activate_stops, begins, call_of_none, call_spent, calls_out, calls_value, chain_arrives, chain_fills, chain_over, chain_steps, chain_stops, crossing_goes, crossing_halts, enter_activates, entry_gives, entry_over, phase_gives, phase_goes, phase_over, phase_waits, plan_is, seen_entries, switch_goes, switch_halts}
 use Rattle.c_eval.proofs.+run.Goals as goal
 use Rattle.c_eval.proofs.+run.Goals.{boundary::chain-then-n-eq0-via-then-n-eq0, boundary::chain-then-n-eq0-via-else-n-eq0+then-live-turns}
 
@@ -67,7 +72,7 @@ pub boundary::cross-returns : goal.boundary::cross-returns
 boundary::cross-returns t c next =
     let s = c.args.setup.now in
     crossing_goes s c.args.at.now next c.args.turn.now (drop (c.args.live.now.next + 1) s.script) c.align.result c.kept_of.result c.args.n c.goes-goes.result c.first_four.result (seen s.script c.args.live.now)
-    (seen s.script c.take_turn.new.live) (seen s.script c.chain.new.live) c.chain.result (c.in_ok-take_turn.ensures s.script) c.align.ensures c.kept_of.ensures c.goes-goes.ensures c.first_four.ensures (c.chain.ensures next)
+    (seen s.script c.take_turn.new.live) (seen s.script c.chain.new.live) c.chain.result (c.in_ok-take_turn.ensures s.script) (c.align.ensures ∙ ap (λ (q : Turn). aligned 2 q.lr) c.turn.view_is) c.kept_of.ensures (c.goes-goes.ensures ∙ ap (λ (q : Turn). goes_of (enters s) q.target) c.turn.view_is) c.first_four.ensures (c.chain.ensures next)
 
 pub boundary::one_entry-returns-in_err-r : goal.boundary::one_entry-returns-in_err-r
 boundary::one_entry-returns-in_err-r t c go =
@@ -157,28 +162,20 @@ calls::begin-returns t c =
     begins s c.args.plan.now c.args.at.now c.args.f.now c.args.args.now c.in_ok-locals.locals (seen s.script c.args.live.now) (seen s.script c.clear.new.live) (seen s.script c.run.new.live) c.run.result
     c.in_ok-locals.ensures (c.clear.ensures s.script) c.run.ensures
 
--- ---- expressions
+-- ---- statements
 
-pub exprs::value-returns-in-Binary : goal.exprs::value-returns-in-Binary
-exprs::value-returns-in-Binary t c = let h = c.binary.ensures c.args.e.now.ctype in search rules
+pub stmts::switch-returns : goal.stmts::switch-returns
+stmts::switch-returns t c =
+    let s = c.args.setup.now in
+    switch_goes s c.args.plan.now c.args.at.now c.args.v.now c.args.parts.now c.parts_from-entered.result.now c.in_ok-x.x c.args.locals.now c.value.new.locals c.parts_in_order.new.locals
+    (seen s.script c.args.live.now) (seen s.script c.value.new.live) (seen s.script c.parts_in_order.new.live) c.in_ok-flow.flow c.after_switch.result c.in_ok-x.ensures c.parts_from-entered.ensures c.in_ok-flow.ensures
+    (c.after_switch.ensures c.parts_in_order.new.locals (seen s.script c.parts_in_order.new.live))
 
-pub exprs::value-returns-in-PtrAdd : goal.exprs::value-returns-in-PtrAdd
-exprs::value-returns-in-PtrAdd t c = let h = c.moved_pointer.ensures c.args.e.now.ctype in search rules
-
-pub exprs::value-returns-in-PtrDiff : goal.exprs::value-returns-in-PtrDiff
-exprs::value-returns-in-PtrDiff t c = let h = c.pointer_difference.ensures c.args.e.now.ctype in search rules
-
-pub exprs::value-returns-in-And : goal.exprs::value-returns-in-And
-exprs::value-returns-in-And t c = let h = c.both.ensures c.args.e.now.ctype in search rules
-
-pub exprs::value-returns-in-Or : goal.exprs::value-returns-in-Or
-exprs::value-returns-in-Or t c = let h = c.either.ensures c.args.e.now.ctype in search rules
-
-pub exprs::value-returns-in-Cond : goal.exprs::value-returns-in-Cond
-exprs::value-returns-in-Cond t c = let h = c.chosen.ensures c.args.e.now.ctype in search rules
-
-pub exprs::value-returns-in-Call : goal.exprs::value-returns-in-Call
-exprs::value-returns-in-Call t c = let h = c.call.ensures c.args.e.now.ctype in search rules
-
-pub exprs::value-returns-in-Range : goal.exprs::value-returns-in-Range
-exprs::value-returns-in-Range t c = let h = c.range.ensures c.args.e.now.ctype in search rules
+pub stmts::switch-returns-in_err-flow : goal.stmts::switch-returns-in_err-flow
+stmts::switch-returns-in_err-flow t c =
+    let s = c.args.setup.now in
+    let q = seen s.script c.parts_in_order.new.live in
+    let over : Stops c.in_err-flow.field-0.0 q (stmt_at s c.args.plan.now c.args.at.now (stmt.Switch c.args.v.now (map arm c.args.parts.now)) c.args.locals.now (seen s.script c.args.live.now)) =
+        switch_halts s c.args.plan.now c.args.at.now c.args.v.now c.args.parts.now c.parts_from-entered.result.now c.in_ok-x.x c.args.locals.now c.value.new.locals (seen s.script c.args.live.now) (seen s.script c.value.new.live) q c.in_err-flow.field-0.0
+        c.in_ok-x.ensures c.parts_from-entered.ensures c.in_err-flow.ensures in
+    search rules
