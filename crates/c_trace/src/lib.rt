@@ -1,6 +1,6 @@
 //! Traces: what a C program does for the turns of a script.
 #![tactic(auto)]
 
-mod trace;
+mod runs;
 
-pub use trace::trace;
+pub use runs::trace;

@@ -1,13 +1,10 @@
 //! Whole runs.
 
-ghost use Rattle.std.specs.Prelude.{◌≡◌, ◌+◌, ◌≤◌, IfOk, List, ℕ, length};
+ghost use Rattle.std.specs.Prelude.{◌≡◌, ◌*◌, IfOk, List, suc, length};
 ghost use Rattle.ns_types.specs.Boundary as boundary;
-ghost use Rattle.ns_types.specs.CRun as crun;
 ghost use Rattle.ns_types.specs.Marks.{events_of};
-ghost use Rattle.ns_types.specs.Memory.{IsStart, ns_rom_size, word_at};
-ghost use Rattle.ns_types.specs.State.{Memory};
+ghost use Rattle.ns_types.specs.Memory.{IsStart, ns_rom_size};
 ghost use Rattle.ns_types.specs.Turns as turns;
-ghost use Rattle.c_eval.specs.Steps as steps;
 ghost use Rattle.c_trace.specs.Trace as spec;
 ghost use Rattle.c_mean.specs.Homes as homes;
 ghost use Rattle.c_mean.specs.Run.{first_memory};
@@ -23,8 +20,9 @@ use cm_base::{List, NoMemory, Stop};
 use ns_types::{Bound, CEvent, CEvents, Mark, Marked, Start, Turn, Veneers};
 use std::alloc::Global;
 
-/// How many calls of the evaluator may nest.
-const NESTING: u64 = 100_000;
+/// How many calls of the evaluator may nest: one for each node on the way from the body of a function to where it is, and one for
+/// each active function. Where they nest deeper there is no memory for them, since the host's stack holds so many.
+const NESTING: u64 = 10_000;
 
 /// The memory that a program begins with.
 fn first_memory(alloc: Global, program: &Program, start: &Start) -> Result<Flat, NoMemory>
@@ -84,15 +82,26 @@ fn run(alloc: Global, setup: &Setup<'_>, at: &At, live: &mut Live, exit: u32) ->
     }
 }
 
+/// How many entries may follow the start: so many for it and for each of these turns.
+fn most_entries(turns: u32, many: usize) -> Result<u64, Halt>
+    ensures { world.IfGiven result (turns * suc many) }
+{
+    match (many as u64).checked_add(1) {
+        Some(all) => match (turns as u64).checked_mul(all) {
+            Some(n) => Ok(n),
+            None => Err(Halt::NoMemory),
+        },
+        None => Err(Halt::NoMemory),
+    }
+}
+
 /// The same, as long as something is pending.
 fn run_on(alloc: Global, setup: &Setup<'_>, at: &At, live: &mut Live, exit: u32) -> Result<u32, Halt>
     ensures { world.Gives result (world.seen setup.now.script live.new)
         (spec.first_chain setup.now at.now exit (world.seen setup.now.script live.old)) }
 {
     let many = setup.script().len();
-    let n = (setup.turns() as u64)
-        .checked_mul(many as u64 + 1)
-        .ok_or(Halt::NoMemory)?;
+    let n = most_entries(setup.turns(), many)?;
     let goes = setup.goes(exit);
     match chain(alloc, setup, at, NESTING, live, exit, [0; 8], n, goes, [0; 4])? {
         Some(x) => Ok(x),
