@@ -13,7 +13,8 @@ use crate::calls::enter;
 use c_memory::{align, is_in_ns_rom};
 use c_types::CType;
 use c_world::{
-    At, Halt, Live, Plan, Setup, converted, count, emit_called, emit_result, first_four, kept_of, stop, take_turn,
+    At, Halt, Live, Plan, Setup, converted, count, emit_called, emit_result, first_four, kept_of,
+    stop, take_turn,
 };
 use cm_base::{List, Stop};
 use ns_types::{End, Goes, Turn};
@@ -153,7 +154,18 @@ fn cross(
 {
     take_turn(live, turn)?;
     let goes = setup.goes(turn.target);
-    chain(alloc, setup, at, left, live, align(2, turn.lr), kept_of(turn), n, goes, first_four(turn))
+    chain(
+        alloc,
+        setup,
+        at,
+        left,
+        live,
+        align(2, turn.lr),
+        kept_of(turn),
+        n,
+        goes,
+        first_four(turn),
+    )
 }
 
 /// The entries that an arrival calls, each by the exit of the one before: a result for the newest pending call, or none where

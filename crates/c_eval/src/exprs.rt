@@ -12,11 +12,11 @@ use c_const::{is_signed, operate_one};
 use c_memory::align;
 use c_tree::{BinOp, Expr, ExprKind};
 use c_types::CType;
-use cm_base::{List, Shared};
 use c_world::{
-    At, Halt, Live, Plan, Setup, Spot, address, caller, change, checked_range, converted, difference,
-    local_spot, moved, operated, pointer_sum, read, step, tested, truth, write,
+    At, Halt, Live, Plan, Setup, Spot, address, caller, change, checked_range, converted,
+    difference, local_spot, moved, operated, pointer_sum, read, step, tested, truth, write,
 };
+use cm_base::{List, Shared};
 use std::alloc::Global;
 
 /// How many calls of the evaluator may nest in one that may have this many.
@@ -48,29 +48,167 @@ pub fn value(
     let left = less(left)?;
     match &e.kind {
         ExprKind::Const(n) => Ok(*n),
-        ExprKind::Local(n) => { let spot = local_spot(plan, at, *n)?; read(live, locals.as_slice(), &e.ctype, spot) },
+        ExprKind::Local(n) => {
+            let spot = local_spot(plan, at, *n)?;
+            read(live, locals.as_slice(), &e.ctype, spot)
+        },
         ExprKind::Global(n) => read(live, locals.as_slice(), &e.ctype, Spot::At(setup.home(*n))),
-        ExprKind::Deref(a) => { let x = value(alloc, setup, plan, at, left, live, locals, a.get())?; read(live, locals.as_slice(), &e.ctype, Spot::At(x)) },
-        ExprKind::Member(a, offset) => { let spot = place(alloc, setup, plan, at, left, live, locals, a.get())?; read(live, locals.as_slice(), &e.ctype, moved(spot, *offset)) },
-        ExprKind::Addr(a) => { let spot = place(alloc, setup, plan, at, left, live, locals, a.get())?; Ok(address(spot)) },
-        ExprKind::Convert(a) => { let x = value(alloc, setup, plan, at, left, live, locals, a.get())?; Ok(converted(&e.ctype, x)) },
-        ExprKind::Unary(op, a) => { let x = value(alloc, setup, plan, at, left, live, locals, a.get())?; Ok(operate_one(*op, x)) },
-        ExprKind::Comma(a, b) => { let _x = value(alloc, setup, plan, at, left, live, locals, a.get())?; value(alloc, setup, plan, at, left, live, locals, b.get()) },
-        ExprKind::NsCreate(a) => { let x = value(alloc, setup, plan, at, left, live, locals, a.get())?; Ok(align(2, x)) },
-        ExprKind::NsTest(a) => { let x = value(alloc, setup, plan, at, left, live, locals, a.get())?; Ok(truth(x % 2 == 0)) },
+        ExprKind::Deref(a) => {
+            let x = value(alloc, setup, plan, at, left, live, locals, a.get())?;
+            read(live, locals.as_slice(), &e.ctype, Spot::At(x))
+        },
+        ExprKind::Member(a, offset) => {
+            let spot = place(alloc, setup, plan, at, left, live, locals, a.get())?;
+            read(live, locals.as_slice(), &e.ctype, moved(spot, *offset))
+        },
+        ExprKind::Addr(a) => {
+            let spot = place(alloc, setup, plan, at, left, live, locals, a.get())?;
+            Ok(address(spot))
+        },
+        ExprKind::Convert(a) => {
+            let x = value(alloc, setup, plan, at, left, live, locals, a.get())?;
+            Ok(converted(&e.ctype, x))
+        },
+        ExprKind::Unary(op, a) => {
+            let x = value(alloc, setup, plan, at, left, live, locals, a.get())?;
+            Ok(operate_one(*op, x))
+        },
+        ExprKind::Comma(a, b) => {
+            let _x = value(alloc, setup, plan, at, left, live, locals, a.get())?;
+            value(alloc, setup, plan, at, left, live, locals, b.get())
+        },
+        ExprKind::NsCreate(a) => {
+            let x = value(alloc, setup, plan, at, left, live, locals, a.get())?;
+            Ok(align(2, x))
+        },
+        ExprKind::NsTest(a) => {
+            let x = value(alloc, setup, plan, at, left, live, locals, a.get())?;
+            Ok(truth(x % 2 == 0))
+        },
         ExprKind::NsCaller => Ok(caller(at)),
-        ExprKind::Binary(op, a, b) => binary(alloc, setup, plan, at, left, live, locals, *op, a.get(), b.get()),
-        ExprKind::PtrAdd(a, b, size) => moved_pointer(alloc, setup, plan, at, left, live, locals, a.get(), b.get(), *size),
-        ExprKind::PtrDiff(a, b, size) => pointer_difference(alloc, setup, plan, at, left, live, locals, a.get(), b.get(), *size),
+        ExprKind::Binary(op, a, b) => binary(
+            alloc,
+            setup,
+            plan,
+            at,
+            left,
+            live,
+            locals,
+            *op,
+            a.get(),
+            b.get(),
+        ),
+        ExprKind::PtrAdd(a, b, size) => moved_pointer(
+            alloc,
+            setup,
+            plan,
+            at,
+            left,
+            live,
+            locals,
+            a.get(),
+            b.get(),
+            *size,
+        ),
+        ExprKind::PtrDiff(a, b, size) => pointer_difference(
+            alloc,
+            setup,
+            plan,
+            at,
+            left,
+            live,
+            locals,
+            a.get(),
+            b.get(),
+            *size,
+        ),
         ExprKind::And(a, b) => both(alloc, setup, plan, at, left, live, locals, a.get(), b.get()),
         ExprKind::Or(a, b) => either(alloc, setup, plan, at, left, live, locals, a.get(), b.get()),
-        ExprKind::Cond(c, a, b) => chosen(alloc, setup, plan, at, left, live, locals, c.get(), a.get(), b.get()),
-        ExprKind::Assign(to, a) => assigned(alloc, setup, plan, at, left, live, locals, &e.ctype, to.get(), a.get()),
-        ExprKind::AssignOp(op, to, a) => changed(alloc, setup, plan, at, left, live, locals, &e.ctype, *op, to.get(), a.get()),
-        ExprKind::Step(to, by, old) => stepped(alloc, setup, plan, at, left, live, locals, &e.ctype, to.get(), *by, *old),
-        ExprKind::Call(n, args) => call(alloc, setup, plan, at, left, live, locals, *n, args.as_slice()),
-        ExprKind::NsCall(p, args) => ns_call(alloc, setup, plan, at, left, live, locals, &e.ctype, p.get(), args.as_slice()),
-        ExprKind::Range(a, b, c) => range(alloc, setup, plan, at, left, live, locals, a.get(), b.get(), c.get()),
+        ExprKind::Cond(c, a, b) => chosen(
+            alloc,
+            setup,
+            plan,
+            at,
+            left,
+            live,
+            locals,
+            c.get(),
+            a.get(),
+            b.get(),
+        ),
+        ExprKind::Assign(to, a) => assigned(
+            alloc,
+            setup,
+            plan,
+            at,
+            left,
+            live,
+            locals,
+            &e.ctype,
+            to.get(),
+            a.get(),
+        ),
+        ExprKind::AssignOp(op, to, a) => changed(
+            alloc,
+            setup,
+            plan,
+            at,
+            left,
+            live,
+            locals,
+            &e.ctype,
+            *op,
+            to.get(),
+            a.get(),
+        ),
+        ExprKind::Step(to, by, old) => stepped(
+            alloc,
+            setup,
+            plan,
+            at,
+            left,
+            live,
+            locals,
+            &e.ctype,
+            to.get(),
+            *by,
+            *old,
+        ),
+        ExprKind::Call(n, args) => call(
+            alloc,
+            setup,
+            plan,
+            at,
+            left,
+            live,
+            locals,
+            *n,
+            args.as_slice(),
+        ),
+        ExprKind::NsCall(p, args) => ns_call(
+            alloc,
+            setup,
+            plan,
+            at,
+            left,
+            live,
+            locals,
+            &e.ctype,
+            p.get(),
+            args.as_slice(),
+        ),
+        ExprKind::Range(a, b, c) => range(
+            alloc,
+            setup,
+            plan,
+            at,
+            left,
+            live,
+            locals,
+            a.get(),
+            b.get(),
+            c.get(),
+        ),
     }
 }
 
@@ -94,8 +232,14 @@ fn place(
     match &e.kind {
         ExprKind::Local(n) => local_spot(plan, at, *n),
         ExprKind::Global(n) => Ok(Spot::At(setup.home(*n))),
-        ExprKind::Deref(a) => { let x = value(alloc, setup, plan, at, left, live, locals, a.get())?; Ok(Spot::At(x)) }
-        ExprKind::Member(a, offset) => { let spot = place(alloc, setup, plan, at, left, live, locals, a.get())?; Ok(moved(spot, *offset)) }
+        ExprKind::Deref(a) => {
+            let x = value(alloc, setup, plan, at, left, live, locals, a.get())?;
+            Ok(Spot::At(x))
+        }
+        ExprKind::Member(a, offset) => {
+            let spot = place(alloc, setup, plan, at, left, live, locals, a.get())?;
+            Ok(moved(spot, *offset))
+        }
         _ => Ok(Spot::At(0)),
     }
 }

@@ -38,14 +38,85 @@ pub fn exec(
         Stmt::Empty => Ok(Flow::Next),
         Stmt::Break => Ok(Flow::Break),
         Stmt::Continue => Ok(Flow::Continue),
-        Stmt::Expr(e) => { let _x = value(alloc, setup, plan, at, left, live, locals, e.get())?; Ok(Flow::Next) },
-        Stmt::Declare { local, items } => declare(alloc, setup, plan, at, left, live, locals, *local, items.as_slice()),
+        Stmt::Expr(e) => {
+            let _x = value(alloc, setup, plan, at, left, live, locals, e.get())?;
+            Ok(Flow::Next)
+        },
+        Stmt::Declare { local, items } => declare(
+            alloc,
+            setup,
+            plan,
+            at,
+            left,
+            live,
+            locals,
+            *local,
+            items.as_slice(),
+        ),
         Stmt::Block(list) => in_order(alloc, setup, plan, at, left, live, locals, list.as_slice()),
-        Stmt::If { test, yes, no } => either(alloc, setup, plan, at, left, live, locals, test.get(), yes.get(), no),
-        Stmt::While { test, body } => while_loop(alloc, setup, plan, at, left, live, locals, test.get(), body.get()),
-        Stmt::DoWhile { body, test } => do_loop(alloc, setup, plan, at, left, live, locals, body.get(), test.get()),
-        Stmt::For { first, test, next, body } => for_loop(alloc, setup, plan, at, left, live, locals, first.as_slice(), test, next, body.get()),
-        Stmt::Switch { value, parts } => switch(alloc, setup, plan, at, left, live, locals, value.get(), parts.as_slice()),
+        Stmt::If { test, yes, no } => either(
+            alloc,
+            setup,
+            plan,
+            at,
+            left,
+            live,
+            locals,
+            test.get(),
+            yes.get(),
+            no,
+        ),
+        Stmt::While { test, body } => while_loop(
+            alloc,
+            setup,
+            plan,
+            at,
+            left,
+            live,
+            locals,
+            test.get(),
+            body.get(),
+        ),
+        Stmt::DoWhile { body, test } => do_loop(
+            alloc,
+            setup,
+            plan,
+            at,
+            left,
+            live,
+            locals,
+            body.get(),
+            test.get(),
+        ),
+        Stmt::For {
+            first,
+            test,
+            next,
+            body,
+        } => for_loop(
+            alloc,
+            setup,
+            plan,
+            at,
+            left,
+            live,
+            locals,
+            first.as_slice(),
+            test,
+            next,
+            body.get(),
+        ),
+        Stmt::Switch { value, parts } => switch(
+            alloc,
+            setup,
+            plan,
+            at,
+            left,
+            live,
+            locals,
+            value.get(),
+            parts.as_slice(),
+        ),
         Stmt::Return(value) => gives(alloc, setup, plan, at, left, live, locals, value),
     }
 }
@@ -90,7 +161,13 @@ fn set_items(
 {
     for item in items {
         let x = value(alloc, setup, plan, at, left, live, locals, item.value.get())?;
-        let _y = write(live, locals, &item.value.get().ctype, moved(spot, item.offset), x)?;
+        let _y = write(
+            live,
+            locals,
+            &item.value.get().ctype,
+            moved(spot, item.offset),
+            x,
+        )?;
     }
     Ok(Flow::Next)
 }
@@ -509,4 +586,3 @@ fn gives(
         None => Ok(Flow::Return(0)),
     }
 }
-

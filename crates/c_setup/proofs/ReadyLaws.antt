@@ -1,5 +1,5 @@
 -- What a run asks of a program holds of each program.
-use Rattle.std.proofs.Common.{ℕ, ◌≤◌, length, arith}
+use Rattle.std.proofs.Common.{◌≤◌, length, arith}
 use Rattle.std.specs.Prelude.{All}
 use Rattle.std.proofs.lemmas.List.Elements.{All-weaker}
 use Rattle.c_tree.specs.Conditions.{IsFunction, IsProgram, Program}

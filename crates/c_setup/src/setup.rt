@@ -91,5 +91,7 @@ pub fn prepare<'a>(
     let entries = entries_of(alloc, functions)?;
     let homes = homes(alloc, program.globals.as_slice())?;
     let doors = doors_of(alloc, program.entries.as_slice(), veneers.list.as_slice())?;
-    Ok(Setup::new(program, veneers, script, turns, plans, entries, homes, doors))
+    Ok(Setup::new(
+        program, veneers, script, turns, plans, entries, homes, doors,
+    ))
 }

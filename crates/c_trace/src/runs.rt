@@ -13,8 +13,8 @@ ghost use Rattle.c_world.specs.Seen as world;
 use c_eval::{chain, phase};
 use c_homes::{contents, data_stack};
 use c_memory::{Flat, align, word_at};
-use c_tree::Program;
 use c_setup::prepare;
+use c_tree::Program;
 use c_world::{At, Halt, Live, Setup, stop};
 use cm_base::{List, NoMemory, Stop};
 use ns_types::{Bound, CEvent, CEvents, Mark, Marked, Start, Turn, Veneers};
@@ -96,14 +96,22 @@ fn most_entries(turns: u32, many: usize) -> Result<u64, Halt>
 }
 
 /// The same, as long as something is pending.
-fn run_on(alloc: Global, setup: &Setup<'_>, at: &At, live: &mut Live, exit: u32) -> Result<u32, Halt>
+fn run_on(
+    alloc: Global,
+    setup: &Setup<'_>,
+    at: &At,
+    live: &mut Live,
+    exit: u32,
+) -> Result<u32, Halt>
     ensures { world.Gives result (world.seen setup.now.script live.new)
         (spec.first_chain setup.now at.now exit (world.seen setup.now.script live.old)) }
 {
     let many = setup.script().len();
     let n = most_entries(setup.turns(), many)?;
     let goes = setup.goes(exit);
-    match chain(alloc, setup, at, NESTING, live, exit, [0; 8], n, goes, [0; 4])? {
+    match chain(
+        alloc, setup, at, NESTING, live, exit, [0; 8], n, goes, [0; 4],
+    )? {
         Some(x) => Ok(x),
         None => phase(alloc, setup, at, NESTING, live, many),
     }

@@ -20,7 +20,10 @@ fn twice_body(alloc: Global) -> Result<Shared<Stmt>, NoMemory>
     let args = one(alloc, local(alloc, 1)?)?;
     let called = node(alloc, ExprKind::NsCall(f, args), word())?;
     let gives = returning(alloc, sum(alloc, called, local(alloc, 1)?)?)?;
-    let mut list = one(alloc, Shared::new(alloc, Stmt::Declare { local: 2, items })?)?;
+    let mut list = one(
+        alloc,
+        Shared::new(alloc, Stmt::Declare { local: 2, items })?,
+    )?;
     list.push(gives)?;
     Shared::new(alloc, Stmt::Block(list))
 }

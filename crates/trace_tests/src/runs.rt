@@ -43,16 +43,34 @@ fn veneers(alloc: Global, names: &[&[u8]]) -> Result<Veneers, NoMemory> {
     let mut list = List::new(alloc);
     let mut address: u32 = 0x103F_F000;
     for name in names {
-        list.push(Veneer { name: Text::from_slice(alloc, *name)?, address })?;
+        list.push(Veneer {
+            name: Text::from_slice(alloc, *name)?,
+            address,
+        })?;
         address = address.wrapping_add(8);
     }
     Ok(Veneers { list })
 }
 
-fn run(alloc: Global, program: &Program, names: &[&[u8]], turns: &[Turn]) -> Result<CEvents, NoMemory> {
+fn run(
+    alloc: Global,
+    program: &Program,
+    names: &[&[u8]],
+    turns: &[Turn],
+) -> Result<CEvents, NoMemory> {
     let veneers = veneers(alloc, names)?;
     let start = start(alloc)?;
-    trace(alloc, program, &veneers, &start, turns, Bound { turns: 1000, deep: 256 })
+    trace(
+        alloc,
+        program,
+        &veneers,
+        &start,
+        turns,
+        Bound {
+            turns: 1000,
+            deep: 256,
+        },
+    )
 }
 
 fn is_started(e: &CEvent) -> bool {
@@ -80,8 +98,12 @@ fn is_called(e: &CEvent, to: u32, x: u32) -> bool {
 /// entry's result goes to it at once, that one.
 fn is_nested(events: &CEvents, gives: u32) -> bool {
     match events.list.as_slice() {
-        [a, b, c, d] => is_started(a) && is_called(b, 0x300, 5) && is_result(c, 1, 10) && is_result(d, 0, gives)
-            && events.end == End::Waiting && events.peak == 288,
+        [a, b, c, d] => is_started(a)
+            && is_called(b, 0x300, 5)
+            && is_result(c, 1, 10)
+            && is_result(d, 0, gives)
+            && events.end == End::Waiting
+            && events.peak == 288,
         _ => false,
     }
 }

@@ -1,4 +1,4 @@
-use Rattle.std.proofs.Common.{◌≡◌, ℕ, ◌+◌, ◌-◌, ◌*◌, ◌<◌, ◌≤◌, ap, arith, drop, map, rules, sym, ◌∙◌}
+use Rattle.std.proofs.Common.{◌≡◌, ℕ, ◌+◌, ◌-◌, ◌*◌, ◌<◌, ap, arith, drop, map, rules, sym, ◌∙◌}
 use Rattle.ns_types.specs.Boundary.{goes_of}
 use Rattle.ns_types.specs.Platform.{aligned}
 use Rattle.ns_types.specs.Turns.{Turn}
@@ -24,12 +24,13 @@ boundary::chain-returns-then-n-eq0 t c next =
     let s = c.args.setup.now in
     let l = c.loop-goes in
     let w = seen s.script l.live in
-    elim c.then-n-eq0.branch
-    [ boundary::chain-then-n-eq0-via-then-n-eq0 b ↦
-        chain_stops s c.args.at.now next c.args.exit c.args.kept l.n c.in-Enter.e l.goes l.args w _ c.in-Enter.is b.if-n-eq0.true (l.invariant next)
-    | boundary::chain-then-n-eq0-via-else-n-eq0+then-live-turns b ↦
-        chain_fills s c.args.at.now next c.args.exit c.args.kept l.n c.in-Enter.e l.goes l.args w _ c.in-Enter.is
-        (omega (arith, b.turns.ensures.value, seen_entries s.script l.live, b.if-live-turns.true)) (l.invariant next) ]
+    elim c.then-n-eq0.branch [
+      | boundary::chain-then-n-eq0-via-then-n-eq0 b ↦
+          chain_stops s c.args.at.now next c.args.exit c.args.kept l.n c.in-Enter.e l.goes l.args w _ c.in-Enter.is b.if-n-eq0.true (l.invariant next)
+      | boundary::chain-then-n-eq0-via-else-n-eq0+then-live-turns b ↦
+          chain_fills s c.args.at.now next c.args.exit c.args.kept l.n c.in-Enter.e l.goes l.args w _ c.in-Enter.is
+          (omega (arith, b.turns.ensures.value, seen_entries s.script l.live, b.if-live-turns.true)) (l.invariant next)
+    ]
 
 pub boundary::chain-returns-in_err-r : goal.boundary::chain-returns-in_err-r
 boundary::chain-returns-in_err-r t c next =
@@ -39,7 +40,7 @@ boundary::chain-returns-in_err-r t c next =
     let bound : w.entries < s.turns = omega (arith, c.turns.ensures.value, seen_entries s.script l.live, c.if-live-turns.false) in
     let some : 0 < l.n = omega (arith, c.if-n-eq0.false) in
     let over : IsOver c.in_err-r.field-0.0 (seen s.script c.one_entry.new.live) (chain_at s c.args.at.now next c.args.exit c.args.kept c.args.n c.args.goes c.args.args (seen s.script c.args.live.now)) =
-        chain_over s c.args.at.now next c.args.exit c.args.kept l.n c.in-Enter.e l.goes l.args w (seen s.script c.one_entry.new.live) c.in_err-r.field-0.0 _ c.in-Enter.is some bound c.in_err-r.ensures (l.invariant next) in
+    chain_over s c.args.at.now next c.args.exit c.args.kept l.n c.in-Enter.e l.goes l.args w (seen s.script c.one_entry.new.live) c.in_err-r.field-0.0 _ c.in-Enter.is some bound c.in_err-r.ensures (l.invariant next) in
     search rules
 
 pub boundary::chain-loop-goes-preserved : goal.boundary::chain-loop-goes-preserved
@@ -65,7 +66,7 @@ boundary::cross-returns-in_err-take_turn t c next =
     let rest = drop (c.args.live.now.next + 1) s.script in
     let u = seen s.script c.take_turn.new.live in
     let over : IsOver c.in_err-take_turn.field-0.0 u (crossing s c.args.at.now next c.args.turn.now rest c.args.n (seen s.script c.args.live.now)) =
-        crossing_halts s c.args.at.now next c.args.turn.now rest c.args.n (seen s.script c.args.live.now) u c.in_err-take_turn.field-0.0 (c.in_err-take_turn.ensures s.script) in
+    crossing_halts s c.args.at.now next c.args.turn.now rest c.args.n (seen s.script c.args.live.now) u c.in_err-take_turn.field-0.0 (c.in_err-take_turn.ensures s.script) in
     search rules
 
 pub boundary::cross-returns : goal.boundary::cross-returns
@@ -80,7 +81,7 @@ boundary::one_entry-returns-in_err-r t c go =
     let w = seen s.script c.args.live.now in
     let v = seen s.script c.enter.new.live in
     let over : IsOver c.in_err-r.field-0.0 v (entry_at s c.args.at.now go c.args.e c.args.args.now c.args.exit c.args.kept w) =
-        entry_over s c.args.at.now go c.args.e c.entry.result c.args.args.now c.args.exit c.args.kept w (seen s.script c.count.new.live) v c.in_err-r.field-0.0 (c.count.ensures s.script) c.entry.ensures c.in_err-r.ensures in
+    entry_over s c.args.at.now go c.args.e c.entry.result c.args.args.now c.args.exit c.args.kept w (seen s.script c.count.new.live) v c.in_err-r.field-0.0 (c.count.ensures s.script) c.entry.ensures c.in_err-r.ensures in
     search rules
 
 pub boundary::one_entry-returns : goal.boundary::one_entry-returns
@@ -100,7 +101,7 @@ boundary::phase-returns-in_err-crossed t c =
     let many : c.in_ok-n.n ≡ s.turns * l.fuel = c.in_ok-n.ensures ∙ ap (λ (k : ℕ). k * l.fuel) c.turns.ensures.value in
     let v = seen s.script c.cross.new.live in
     let over : IsOver c.in_err-crossed.field-0.0 v (phase_at s c.args.at.now c.args.fuel (seen s.script c.args.live.now)) =
-        phase_over s c.args.at.now l.fuel c.in_ok-n.n (seen s.script l.live) v c.in-Some.turn.now (drop (l.live.next + 1) s.script) c.in_err-crossed.field-0.0 _ c.loop-fuel-test.true c.in-Some.ensures.next many c.in_err-crossed.ensures l.invariant in
+    phase_over s c.args.at.now l.fuel c.in_ok-n.n (seen s.script l.live) v c.in-Some.turn.now (drop (l.live.next + 1) s.script) c.in_err-crossed.field-0.0 _ c.loop-fuel-test.true c.in-Some.ensures.next many c.in_err-crossed.ensures l.invariant in
     search rules
 
 pub boundary::phase-returns-in-Some-crossed : goal.boundary::phase-returns-in-Some-crossed
@@ -176,6 +177,6 @@ stmts::switch-returns-in_err-flow t c =
     let s = c.args.setup.now in
     let q = seen s.script c.parts_in_order.new.live in
     let over : Stops c.in_err-flow.field-0.0 q (stmt_at s c.args.plan.now c.args.at.now (stmt.Switch c.args.v.now (map arm c.args.parts.now)) c.args.locals.now (seen s.script c.args.live.now)) =
-        switch_halts s c.args.plan.now c.args.at.now c.args.v.now c.args.parts.now c.parts_from-entered.result.now c.in_ok-x.x c.args.locals.now c.value.new.locals (seen s.script c.args.live.now) (seen s.script c.value.new.live) q c.in_err-flow.field-0.0
-        c.in_ok-x.ensures c.parts_from-entered.ensures c.in_err-flow.ensures in
+    switch_halts s c.args.plan.now c.args.at.now c.args.v.now c.args.parts.now c.parts_from-entered.result.now c.in_ok-x.x c.args.locals.now c.value.new.locals (seen s.script c.args.live.now) (seen s.script c.value.new.live) q c.in_err-flow.field-0.0
+    c.in_ok-x.ensures c.parts_from-entered.ensures c.in_err-flow.ensures in
     search rules

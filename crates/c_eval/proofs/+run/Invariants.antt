@@ -1,4 +1,4 @@
-use Rattle.std.proofs.Common.{◌≡◌, ℕ, ◌+◌, ◌*◌, drop, map, []}
+use Rattle.std.proofs.Common.{◌≡◌, ◌+◌, ◌*◌, drop, map}
 use Rattle.ns_types.specs.CRun.{World, Outcome}
 use Rattle.c_mean.specs.Exprs.{sense, values_from}
 use Rattle.c_mean.specs.Parts.{loop}
