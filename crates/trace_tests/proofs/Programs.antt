@@ -5,6 +5,9 @@ use Rattle.std.proofs.lemmas.List.Elements.{All-cons}
 use Rattle.std.proofs.lemmas.List.Kept.{AllPairs-cons}
 use Rattle.c_tree.specs.Conditions.{IsFunction, IsGlobal, IsProgram}
 use Rattle.c_tree.specs.Numbers.{names_of_program}
+use Rattle.c_types.specs.declared.ctype.Shape.TheFolds.{the_lemmas as type_folds}
+use Rattle.c_tree.specs.declared.expr.ExprKind.TheFolds.{the_lemmas as folds}
+use Rattle.c_tree.specs.declared.stmt.Part.TheFolds.{the_lemmas as stmt_folds}
 use Rattle.c_tree.specs.declared.program.TFunction.{TFunction}
 use Rattle.trace_tests.specs.Programs.{calls_itself, calls_out, endless, go, one, twice}
 
@@ -27,53 +30,53 @@ a_pair R x y r = AllPairs-cons R x (y ∷ []) (All-cons (R x) y [] r (none (R x)
 twice_is : IsFunction (names_of_program calls_out []) twice
 twice_is = record {
   params = omega arith;
-  nodes = omega arith;
-  slots = omega arith;
-  placed = omega arith;
-  types = search rules;
-  typed = search rules;
+  nodes = search (rules, folds, stmt_folds);
+  slots = search (rules, folds, stmt_folds);
+  placed = search (rules, folds, stmt_folds, type_folds);
+  types = search (rules, type_folds);
+  typed = search (rules, type_folds);
   named = refl;
   entry = λ e. (omega arith, refl);
-  numbers = search rules;
+  numbers = search (rules, folds, stmt_folds);
 }
 
 one_is : IsFunction (names_of_program calls_out []) one
 one_is = record {
   params = omega arith;
-  nodes = omega arith;
-  slots = omega arith;
-  placed = omega arith;
-  types = search rules;
-  typed = search rules;
+  nodes = search (rules, folds, stmt_folds);
+  slots = search (rules, folds, stmt_folds);
+  placed = search (rules, folds, stmt_folds, type_folds);
+  types = search (rules, type_folds);
+  typed = search (rules, type_folds);
   named = refl;
   entry = λ e. (omega arith, refl);
-  numbers = search rules;
+  numbers = search (rules, folds, stmt_folds);
 }
 
 endless_is : IsFunction (names_of_program calls_itself []) endless
 endless_is = record {
   params = omega arith;
-  nodes = omega arith;
-  slots = omega arith;
-  placed = omega arith;
-  types = search rules;
-  typed = search rules;
+  nodes = search (rules, folds, stmt_folds);
+  slots = search (rules, folds, stmt_folds);
+  placed = search (rules, folds, stmt_folds, type_folds);
+  types = search (rules, type_folds);
+  typed = search (rules, type_folds);
   named = refl;
   entry = λ e. (omega arith, refl);
-  numbers = search rules;
+  numbers = search (rules, folds, stmt_folds);
 }
 
 go_is : IsFunction (names_of_program calls_itself []) go
 go_is = record {
   params = omega arith;
-  nodes = omega arith;
-  slots = omega arith;
-  placed = omega arith;
-  types = search rules;
-  typed = search rules;
+  nodes = search (rules, folds, stmt_folds);
+  slots = search (rules, folds, stmt_folds);
+  placed = search (rules, folds, stmt_folds, type_folds);
+  types = search (rules, type_folds);
+  typed = search (rules, type_folds);
   named = refl;
   entry = λ e. (omega arith, refl);
-  numbers = search rules;
+  numbers = search (rules, folds, stmt_folds);
 }
 
 outer_differ : Differ twice one
@@ -86,8 +89,8 @@ pub calls_out_is : IsProgram (record { functions = calls_out; globals = []; entr
 calls_out_is = record {
   functions = two (IsFunction (names_of_program calls_out [])) twice one twice_is one_is;
   globals = none IsGlobal;
-  types = search rules;
-  nodes = omega arith;
+  types = search (rules, type_folds);
+  nodes = search (rules, folds, stmt_folds);
   bytes = omega arith;
   differ = a_pair Differ twice one outer_differ;
   entries = refl;
@@ -98,8 +101,8 @@ pub calls_itself_is : IsProgram (record { functions = calls_itself; globals = []
 calls_itself_is = record {
   functions = two (IsFunction (names_of_program calls_itself [])) endless go endless_is go_is;
   globals = none IsGlobal;
-  types = search rules;
-  nodes = omega arith;
+  types = search (rules, type_folds);
+  nodes = search (rules, folds, stmt_folds);
   bytes = omega arith;
   differ = a_pair Differ endless go inner_differ;
   entries = refl;
