@@ -1,0 +1,2 @@
+pub mod Relate
+pub mod Straight
