@@ -15,7 +15,7 @@ use Rattle.mid_ir.specs.declared.stmt.MidStmt.{MidStmt}
 use Rattle.mid_ir.specs.declared.stmt.MidStmt.TheVariants as mid
 use Rattle.mid_ir.specs.declared.stmt.SetOp.TheVariants as op
 use Rattle.lower_code.specs.Frames.{Home, Variable, Placed, Frame}
-use Rattle.lower_code.specs.Pieces.{kind_of, convert, load, store, operation, operation_one, truth, plus, scaled, counted, cleared, is_even, choose, places}
+use Rattle.lower_code.specs.Pieces.{kind_of, convert, load, store, operation, operation_one, truth, plus, counted, moved_by, apart, cleared, is_even, choose, places}
 
 -- code by the first free variable
 abbrev pub Codes : Type 0
@@ -70,7 +70,7 @@ read c (Computed at) t = at t ++ load c t t ∷ []
 abbrev pub assigned : CType → Place → Codes → Codes
 assigned c (Held v) value t = value t ++ mid.Set v op.Copy t t ∷ []
 assigned c (Based b) value t = value t ++ base b (t + 1) ∷ store c (t + 1) t ∷ []
-assigned c (Computed at) value t = at t ++ value (t + 1) ++ store c t (t + 1) ∷ mid.Set t op.Copy (t + 1) (t + 1) ∷ []
+assigned c (Computed at) value t = at t ++ (value (t + 1) ++ store c t (t + 1) ∷ mid.Set t op.Copy (t + 1) (t + 1) ∷ [])
 
 -- ---- `op=`, and a step by a number
 
@@ -80,26 +80,26 @@ pub record Change : Type 0 where
   pub place : CType
   pub operand : CType
 
--- the operand, in x, becomes the new value; the old one is in v, and s is free
-abbrev pub changed : Change → ℕ → ℕ → ℕ → List MidStmt
-changed c v x s = counted (referenced c.place) x s ++ operation c.op (done_signed c.op c.place c.operand) x v x ∷ convert c.place x
+-- The operand, in x, becomes the new value, and then comes the rest. The old value is in v, and s is free.
+abbrev pub changed : Change → ℕ → ℕ → ℕ → List MidStmt → List MidStmt
+changed c v x s rest = counted (referenced c.place) x s ++ (operation c.op (done_signed c.op c.place c.operand) x v x ∷ (convert c.place x ++ rest))
 
--- the object whose address is in a variable is changed by the operand in x, which becomes its new value; s is free
-abbrev pub change_at : Change → ℕ → ℕ → ℕ → List MidStmt
-change_at c at x s = load c.place s at ∷ changed c s x (s + 1) ++ store c.place at x ∷ []
+-- The object whose address is in a variable is changed by the operand in x, which becomes its new value; s is free.
+abbrev pub change_at : Change → ℕ → ℕ → ℕ → List MidStmt → List MidStmt
+change_at c at x s rest = load c.place s at ∷ changed c s x (s + 1) (store c.place at x ∷ rest)
 
 abbrev pub assigned_op : Change → Place → Codes → Codes
-assigned_op c (Held v) value t = value t ++ changed c v t (t + 1) ++ mid.Set v op.Copy t t ∷ []
-assigned_op c (Based b) value t = value t ++ base b (t + 1) ∷ change_at c (t + 1) t (t + 2)
-assigned_op c (Computed at) value t = at t ++ value (t + 1) ++ change_at c t (t + 1) (t + 2) ++ mid.Set t op.Copy (t + 1) (t + 1) ∷ []
+assigned_op c (Held v) value t = value t ++ changed c v t (t + 1) (mid.Set v op.Copy t t ∷ [])
+assigned_op c (Based b) value t = value t ++ base b (t + 1) ∷ change_at c (t + 1) t (t + 2) []
+assigned_op c (Computed at) value t = at t ++ (value (t + 1) ++ change_at c t (t + 1) (t + 2) (mid.Set t op.Copy (t + 1) (t + 1) ∷ []))
 
--- a variable is changed by a number
-abbrev pub step_held : CType → ℕ → ℕ → ℕ → List MidStmt
-step_held c by v s = mid.Const s by ∷ mid.Set v op.Add v s ∷ convert c v
+-- a variable is changed by a number, and then comes the rest
+abbrev pub step_held : CType → ℕ → ℕ → ℕ → List MidStmt → List MidStmt
+step_held c by v s rest = mid.Const s by ∷ mid.Set v op.Add v s ∷ (convert c v ++ rest)
 
 -- The object whose address is in t + 1 is changed by a number. Its old value comes to t, and its new one to v.
 abbrev pub step_at : CType → ℕ → ℕ → ℕ → List MidStmt
-step_at c by v t = load c t (t + 1) ∷ mid.Const (t + 2) by ∷ mid.Set v op.Add t (t + 2) ∷ convert c v ++ store c (t + 1) v ∷ []
+step_at c by v t = load c t (t + 1) ∷ mid.Const (t + 2) by ∷ mid.Set v op.Add t (t + 2) ∷ (convert c v ++ store c (t + 1) v ∷ [])
 
 -- the variable of the new value, by whether the old one is the expression's
 abbrev pub new_value : Bool → ℕ → ℕ
@@ -107,8 +107,8 @@ new_value true t = t + 2
 new_value false t = t
 
 abbrev pub stepped : CType → ℕ → Bool → Place → Codes
-stepped c by true (Held v) t = mid.Set t op.Copy v v ∷ step_held c by v (t + 1)
-stepped c by false (Held v) t = step_held c by v (t + 1) ++ mid.Set t op.Copy v v ∷ []
+stepped c by true (Held v) t = mid.Set t op.Copy v v ∷ step_held c by v (t + 1) []
+stepped c by false (Held v) t = step_held c by v (t + 1) (mid.Set t op.Copy v v ∷ [])
 stepped c by old (Based b) t = base b (t + 1) ∷ step_at c by (new_value old t) t
 stepped c by old (Computed at) t = at t ++ mid.Set (t + 1) op.Copy t t ∷ step_at c by (new_value old t) t
 
@@ -145,9 +145,9 @@ kind_step fr (k.Member e offset) c = as_place c (member fr.bytes e.place offset)
 kind_step fr (k.Addr e) c = as_value (address e.place)
 kind_step fr (k.Convert e) c = as_value (λ t. e.code t ++ convert c t)
 kind_step fr (k.Unary o e) c = as_value (λ t. e.code t ++ operation_one o t)
-kind_step fr (k.Binary o e f) c = as_value (λ t. e.code t ++ f.code (t + 1) ++ operation o (is_signed e.ctype) t t (t + 1) ∷ [])
-kind_step fr (k.PtrAdd e f size) c = as_value (λ t. e.code t ++ f.code (t + 1) ++ scaled size (t + 1) (t + 2) ++ mid.Set t op.Add t (t + 1) ∷ [])
-kind_step fr (k.PtrDiff e f size) c = as_value (λ t. e.code t ++ f.code (t + 1) ++ mid.Set t op.Sub t (t + 1) ∷ mid.Const (t + 1) size ∷ mid.Set t op.DivS t (t + 1) ∷ [])
+kind_step fr (k.Binary o e f) c = as_value (λ t. e.code t ++ (f.code (t + 1) ++ operation o (is_signed e.ctype) t t (t + 1) ∷ []))
+kind_step fr (k.PtrAdd e f size) c = as_value (λ t. e.code t ++ (f.code (t + 1) ++ moved_by size t))
+kind_step fr (k.PtrDiff e f size) c = as_value (λ t. e.code t ++ (f.code (t + 1) ++ apart size t))
 kind_step fr (k.And e f) c = as_value (λ t. e.code t ++ choose t (f.code t ++ truth t) (mid.Const t 0 ∷ []) ∷ [])
 kind_step fr (k.Or e f) c = as_value (λ t. e.code t ++ choose t (mid.Const t 1 ∷ []) (f.code t ++ truth t) ∷ [])
 kind_step fr (k.Cond e f g) c = as_value (λ t. e.code t ++ choose t (f.code t) (g.code t) ∷ [])
@@ -156,8 +156,8 @@ kind_step fr (k.AssignOp o e f) c = as_value (assigned_op (record { op = o; plac
 kind_step fr (k.Step e by old) c = as_value (stepped c by old e.place)
 kind_step fr (k.Comma e f) c = as_value (λ t. e.code t ++ f.code t)
 kind_step fr (k.Call n args) c = as_value (λ t. all_codes t args ++ mid.Call t n (places t (length args)) ∷ [])
-kind_step fr (k.NsCall p args) c = as_value (λ t. p.code t ++ all_codes (t + 1) args ++ mid.NsCall t t (places (t + 1) (length args)) (kind_of c) ∷ [])
-kind_step fr (k.Range p n flags) c = as_value (λ t. p.code t ++ n.code (t + 1) ++ flags.code (t + 2) ++ mid.Range t t (t + 1) (t + 2) ∷ [])
+kind_step fr (k.NsCall p args) c = as_value (λ t. p.code t ++ (all_codes (t + 1) args ++ mid.NsCall t t (places (t + 1) (length args)) (kind_of c) ∷ []))
+kind_step fr (k.Range p n flags) c = as_value (λ t. p.code t ++ (n.code (t + 1) ++ (flags.code (t + 2) ++ mid.Range t t (t + 1) (t + 2) ∷ [])))
 kind_step fr (k.NsCreate e) c = as_value (λ t. e.code t ++ cleared t)
 kind_step fr (k.NsTest e) c = as_value (λ t. e.code t ++ is_even t)
 kind_step fr k.NsCaller c = as_value (λ t. mid.Caller t ∷ [])

@@ -115,6 +115,14 @@ abbrev pub counted : Option CType → ℕ → ℕ → List MidStmt
 counted None x s = []
 counted (Some to) x s = scaled (bytes_of to) x s
 
+-- the pointer in t is moved by as many objects of a size as the next variable says
+abbrev pub moved_by : ℕ → ℕ → List MidStmt
+moved_by size t = cond (eqb size 1) [] (scaled size (t + 1) (t + 2)) ++ mid.Set t op.Add t (t + 1) ∷ []
+
+-- how many objects of a size lie between the pointers in the next variable and in t
+abbrev pub apart : ℕ → ℕ → List MidStmt
+apart size t = mid.Set t op.Sub t (t + 1) ∷ mid.Const (t + 1) size ∷ mid.Set t op.DivS t (t + 1) ∷ []
+
 -- bit 0 of t is cleared
 abbrev pub cleared : ℕ → List MidStmt
 cleared t = mid.Const (t + 1) 1 ∷ mid.Set t op.Or t (t + 1) ∷ mid.Set t op.Xor t (t + 1) ∷ []

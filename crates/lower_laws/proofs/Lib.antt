@@ -1,2 +1,4 @@
 pub mod Relate
 pub mod Straight
+pub mod Accesses
+pub mod Places
