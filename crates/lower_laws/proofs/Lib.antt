@@ -2,3 +2,4 @@ pub mod Relate
 pub mod Straight
 pub mod Accesses
 pub mod Places
+pub mod Writes

@@ -105,18 +105,6 @@ module _ (fr : Frame) (good : IsFrame fr) (r : Site) (room : r.block + fr.bytes 
       ends (Rattle.mid_ir.specs.Run.Gives x u) = refl
       ends (Rattle.mid_ir.specs.Run.Stops e u) = refl
 
-  pub const_does : (x : ℕ) → Does (λ l w. Has x l w) (λ t. mid.Const t x ∷ [])
-  const_does x = record { by = λ t nt l vs w p le g.
-      subst (λ o. Runs (Value fr t vs) (Has x l w) o) (sym (one_is (mid.Const t x) vs (low p w) ∙ run_Const r t x vs (low p w)))
-      (left (Value fr t vs) x l (put vs t x) w p le (put_value t x l vs vs nt g (kept_self fr.free t vs))) }
-    where
-      put_value : (t x : ℕ) (l : List ℕ) (vs old : Vars) → fr.free ≤ t → Agrees fr l old → Kept fr.free t vs old → Value fr t vs x l (put old t x)
-      put_value t x l vs old nt g k = record {
-        holds = put_same old t x;
-        locals = agrees_on fr l old (put old t x) good (λ i lt. put_other old t x i (inl (omega arith))) g;
-        kept = record { at = λ i a b. put_other old t x i (inl b) ∙ k.at i a b };
-      }
-
   -- x is put into t
   pub put_value : (t x : ℕ) (l : List ℕ) (vs old : Vars) → fr.free ≤ t → Agrees fr l old → Kept fr.free t vs old → Value fr t vs x l (put old t x)
   put_value t x l vs old nt g k = record {
@@ -124,6 +112,11 @@ module _ (fr : Frame) (good : IsFrame fr) (r : Site) (room : r.block + fr.bytes 
     locals = agrees_on fr l old (put old t x) good (λ i lt. put_other old t x i (inl (omega arith))) g;
     kept = record { at = λ i a b. put_other old t x i (inl b) ∙ k.at i a b };
   }
+
+  pub const_does : (x : ℕ) → Does (λ l w. Has x l w) (λ t. mid.Const t x ∷ [])
+  const_does x = record { by = λ t nt l vs w p le g.
+      subst (λ o. Runs (Value fr t vs) (Has x l w) o) (sym (one_is (mid.Const t x) vs (low p w) ∙ run_Const r t x vs (low p w)))
+      (left (Value fr t vs) x l (put vs t x) w p le (put_value t x l vs vs nt g (kept_self fr.free t vs))) }
 
   -- what is put into a variable is a value
   pub puts_value : (t p : ℕ) (l : List ℕ) (vs old : Vars) (w : World) (a : tree.Out ℕ) (o : Out) → fr.free ≤ t → Agrees fr l old → Kept fr.free t vs old → Runs (Put t l old) a o → Runs (Value fr t vs) a o
@@ -165,17 +158,17 @@ module _ (fr : Frame) (good : IsFrame fr) (r : Site) (room : r.block + fr.bytes 
   base_is (Fixed at) v vs w = run_Const r v at vs w
 
   -- code for a base, and what follows it
-  after_base : (b : Base) (v : ℕ) (ms : List MidStmt) (vs : Vars) (w : World) → run_all r (code.base b v ∷ ms) vs w ≡ run_all r ms (put vs v (base_at b)) w
+  pub after_base : (b : Base) (v : ℕ) (ms : List MidStmt) (vs : Vars) (w : World) → run_all r (code.base b v ∷ ms) vs w ≡ run_all r ms (put vs v (base_at b)) w
   after_base b v ms vs w = next r (code.base b v) ms vs (put vs v (base_at b)) w w (base_is b v vs w)
 
   -- a part that begins with a place of each form
-  at_held : {B : Type 0} (H : B → List ℕ → Vars → Type 0) (p : Part Spot) (v : ℕ) (s : HeldAt p v) (f : Spot → Part B) (l : List ℕ) (w : World) (o : Out) → Runs H (f (Unplaced s.local) l w) o → Runs H (then_with (p l w) f) o
+  pub at_held : {B : Type 0} (H : B → List ℕ → Vars → Type 0) (p : Part Spot) (v : ℕ) (s : HeldAt p v) (f : Spot → Part B) (l : List ℕ) (w : World) (o : Out) → Runs H (f (Unplaced s.local) l w) o → Runs H (then_with (p l w) f) o
   at_held H p v s f l w o h = subst (λ z. Runs H (then_with z f) o) (sym (s.is l w)) h
 
-  at_based : {B : Type 0} (H : B → List ℕ → Vars → Type 0) (p : Part Spot) (b : Base) (s : BasedAt p b) (f : Spot → Part B) (l : List ℕ) (w : World) (o : Out) → Runs H (f (At (base_at b)) l w) o → Runs H (then_with (p l w) f) o
+  pub at_based : {B : Type 0} (H : B → List ℕ → Vars → Type 0) (p : Part Spot) (b : Base) (s : BasedAt p b) (f : Spot → Part B) (l : List ℕ) (w : World) (o : Out) → Runs H (f (At (base_at b)) l w) o → Runs H (then_with (p l w) f) o
   at_based H p b s f l w o h = subst (λ z. Runs H (then_with z f) o) (sym (s.is l w)) h
 
-  at_computed : {B : Type 0} (H : B → List ℕ → Vars → Type 0) (p : Part Spot) (c : Codes) (s : ComputedAt p c) (f : Spot → Part B) (l : List ℕ) (w : World) (o : Out) → Runs H (then_with (s.at l w) (λ x m u. f (At x) m u)) o → Runs H (then_with (p l w) f) o
+  pub at_computed : {B : Type 0} (H : B → List ℕ → Vars → Type 0) (p : Part Spot) (c : Codes) (s : ComputedAt p c) (f : Spot → Part B) (l : List ℕ) (w : World) (o : Out) → Runs H (then_with (s.at l w) (λ x m u. f (At x) m u)) o → Runs H (then_with (p l w) f) o
   at_computed H p c s f l w o h = subst (λ z. Runs H z o) (sym (ap (λ z. then_with z f) (s.is l w) ∙ then_then (s.at l w) (λ x m u. Has (At x) m u) f)) h
 
   -- ---- its address
