@@ -3,3 +3,4 @@ pub mod Straight
 pub mod Accesses
 pub mod Places
 pub mod Writes
+pub mod Steps

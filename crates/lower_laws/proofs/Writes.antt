@@ -30,21 +30,21 @@ put_not : (vs : Vars) (v x u : ℕ) → u ≢ v → put vs v x u ≡ vs u
 put_not vs v x u h = grind (arith, h)
 
 -- a value that was put into a variable, and what follows
-puts_then : {B : Type 0} (H : B → List ℕ → Vars → Type 0) (v : ℕ) (l : List ℕ) (old : Vars) (a : tree.Out ℕ) (o : Out) (f : ℕ → Part B) (g : Vars → World → Out) → Runs (Put v l old) a o
+pub puts_then : {B : Type 0} (H : B → List ℕ → Vars → Type 0) (v : ℕ) (l : List ℕ) (old : Vars) (a : tree.Out ℕ) (o : Out) (f : ℕ → Part B) (g : Vars → World → Out) → Runs (Put v l old) a o
     → ((x : ℕ) (w : World) (p : ℕ) → p ≤ w.peak → Runs H (f x l w) (g (put old v x) (low p w))) → Runs H (then_with a f) (then_do o g)
 puts_then H v l old a o f g r h =
     then_runs (Put v l old) H a o f g r
     (λ x m new w p le q. subst (λ z. Runs H (f x z w) (g new (low p w))) (sym q.list) (subst (λ z. Runs H (f x l w) (g z (low p w))) (sym q.vars) (h x w p le)))
 
 -- a write, and code behind it
-same_then : (H : ℕ → List ℕ → Vars → Type 0) (x : ℕ) (l : List ℕ) (old : Vars) (a : tree.Out ℕ) (o : Out) (g : Vars → World → Out) → Runs (Same x l old) a o
+pub same_then : (H : ℕ → List ℕ → Vars → Type 0) (x : ℕ) (l : List ℕ) (old : Vars) (a : tree.Out ℕ) (o : Out) (g : Vars → World → Out) → Runs (Same x l old) a o
     → ((w : World) (p : ℕ) → p ≤ w.peak → Runs H (Has x l w) (g old (low p w))) → Runs H a (then_do o g)
 same_then H x l old a o g r h =
     and_runs (Same x l old) H a o g r
     (λ y m new w p le q. subst (λ z. Runs H (Has z m w) (g new (low p w))) (sym q.value) (subst (λ z. Runs H (Has x z w) (g new (low p w))) (sym q.list) (subst (λ z. Runs H (Has x l w) (g z (low p w))) (sym q.vars) (h w p le))))
 
 -- code that sets a variable, and what follows
-sets_then : (r : Site) (t s x : ℕ) (ms rest : List MidStmt) (vs : Vars) (w : World) (h : Sets t s x vs w (run_all r ms vs w)) → run_all r (ms ++ rest) vs w ≡ run_all r rest h.new w
+pub sets_then : (r : Site) (t s x : ℕ) (ms rest : List MidStmt) (vs : Vars) (w : World) (h : Sets t s x vs w (run_all r ms vs w)) → run_all r (ms ++ rest) vs w ≡ run_all r rest h.new w
 sets_then r t s x ms rest vs w h = run_all_append r ms rest vs w ∙ ap (λ o. then_do o (run_all r rest)) h.is
 
 module _ (fr : Frame) (good : IsFrame fr) (r : Site) (room : r.block + fr.bytes < 4294967296) where
@@ -52,7 +52,7 @@ module _ (fr : Frame) (good : IsFrame fr) (r : Site) (room : r.block + fr.bytes 
   D = Does fr good r room
 
   -- a local is set to x, and y is in t
-  set_local : (t v i x y p : ℕ) (l : List ℕ) (vs old new : Vars) (w : World) → slice_get fr.homes i ≡ Some (Variable v) → fr.free ≤ t → p ≤ w.peak → Agrees fr l old → Kept fr.free t vs old
+  pub set_local : (t v i x y p : ℕ) (l : List ℕ) (vs old new : Vars) (w : World) → slice_get fr.homes i ≡ Some (Variable v) → fr.free ≤ t → p ≤ w.peak → Agrees fr l old → Kept fr.free t vs old
       → new v ≡ x → new t ≡ y → ((u : ℕ) → u < t → u ≢ v → new u ≡ old u) → Runs (Value fr t vs) (Has y (slice_set l i x) w) (Next new (low p w))
   set_local t v i x y p l vs old new w home nt le g k e f same =
       left (Value fr t vs) y (slice_set l i x) new w p le (record {
@@ -62,7 +62,7 @@ module _ (fr : Frame) (good : IsFrame fr) (r : Site) (room : r.block + fr.bytes 
       })
 
   -- memory is written, and all is as before but for variables from t on
-  unchanged : (t y p : ℕ) (l : List ℕ) (vs old new : Vars) (w : World) → fr.free ≤ t → p ≤ w.peak → Agrees fr l old → Kept fr.free t vs old → new t ≡ y → ((u : ℕ) → u < t → new u ≡ old u) → Runs (Value fr t vs) (Has y l w) (Next new (low p w))
+  pub unchanged : (t y p : ℕ) (l : List ℕ) (vs old new : Vars) (w : World) → fr.free ≤ t → p ≤ w.peak → Agrees fr l old → Kept fr.free t vs old → new t ≡ y → ((u : ℕ) → u < t → new u ≡ old u) → Runs (Value fr t vs) (Has y l w) (Next new (low p w))
   unchanged t y p l vs old new w nt le g k f same =
       left (Value fr t vs) y l new w p le (record { holds = f; locals = agrees_on fr l old new good (λ u lt. same u (omega arith)) g; kept = record { at = λ j a b. same j b ∙ k.at j a b } })
 
