@@ -4,3 +4,4 @@ pub mod Accesses
 pub mod Places
 pub mod Writes
 pub mod Steps
+pub mod Operands

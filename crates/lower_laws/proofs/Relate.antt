@@ -109,8 +109,8 @@ then_value fr t vs H a o f g r h =
     (λ x l new w p le v. subst (λ y. Runs H (f y l w) (g new (low p w))) v.holds (h l new w p le v.locals v.kept))
 
 -- what went before kept what had to be
-pub keeps : (fr : Frame) (t u : ℕ) (vs new : Vars) (a : tree.Out ℕ) (o : Out) → t ≤ u → Kept fr.free t vs new → (new u ≡ new u) → Runs (Value fr t new) a o → Runs (Value fr t vs) a o
-keeps fr t u vs new a o le k e r = weaker (Value fr t new) (Value fr t vs) a o (λ x l last v. record { holds = v.holds; locals = v.locals; kept = kept_on fr.free t t vs new last (omega arith) k v.kept }) r
+pub keeps : (fr : Frame) (t : ℕ) (vs new : Vars) (a : tree.Out ℕ) (o : Out) → Kept fr.free t vs new → Runs (Value fr t new) a o → Runs (Value fr t vs) a o
+keeps fr t vs new a o k r = weaker (Value fr t new) (Value fr t vs) a o (λ x l last v. record { holds = v.holds; locals = v.locals; kept = kept_on fr.free t t vs new last (omega arith) k v.kept }) r
 
 -- one part or the other
 pub chosen_runs : {A : Type 0} (G : A → List ℕ → Vars → Type 0) (x : ℕ) (f g : Part A) (l : List ℕ) (w : World) (o q : Out) → Runs G (f l w) o → Runs G (g l w) q → Runs G (chosen x f g l w) (where_set x o q)
