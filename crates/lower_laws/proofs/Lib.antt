@@ -5,3 +5,4 @@ pub mod Places
 pub mod Writes
 pub mod Steps
 pub mod Operands
+pub mod Exprs

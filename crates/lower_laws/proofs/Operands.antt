@@ -34,6 +34,7 @@ use Rattle.lower_code.specs.Pieces as piece
 use Rattle.lower_code.specs.Pieces.{places}
 use Rattle.lower_code.specs.Exprs as code
 use Rattle.lower_code.specs.Exprs.{Codes, Operand}
+use Rattle.lower_laws.specs.Likeness.{Outside}
 use Rattle.lower_laws.proofs.Relate.{put_same, put_other, Agrees, IsFrame, Kept, kept_self, kept_on, Runs, Value, left, stops, halts, then_runs, keeps, chosen_runs}
 use Rattle.lower_laws.proofs.Straight.{Sets, next, kind_is, sets_runs, truth_sets, moved_sets, cleared_sets, is_even_sets, one_sets, convert_sets, operation_is}
 use Rattle.lower_laws.proofs.Accesses.{Put, result_puts}
@@ -216,11 +217,7 @@ module _ (fr : Frame) (good : IsFrame fr) (r : Site) (room : r.block + fr.bytes 
       (left (Value fr t vs) (narrowed (piece.kind_of y) x) l (put old t (narrowed (piece.kind_of y) x)) w h.by.0 h.by.1 (put_value fr good r room t (narrowed (piece.kind_of y) x) l vs old nt g k)))
   outside_value y t l vs old (Over e w) b nt g k h = subst (λ o. Runs (Value fr t vs) (Ends e w) (from_outside (piece.kind_of y) t old o)) (sym h.by.2) (record { by = halts e w h.by.0 h.by.1 })
 
-  -- what follows a Non-secure call
-  abbrev pub Outside : Around → Type 0
-  Outside s = (target : ℕ) (xs : List ℕ) (w : World) (p : ℕ) → p ≤ w.peak → Alike (s.ns_call target xs w) (r.after (low p (emit (c.Called target xs) (mark_at target eight_zeros w) w)))
-
-  ns_value : (s : Around) (y : CType) (t x p : ℕ) (xs l : List ℕ) (vs old : Vars) (w : World) → Outside s → fr.free ≤ t → p ≤ w.peak → Agrees fr l old → Kept fr.free t vs old
+  ns_value : (s : Around) (y : CType) (t x p : ℕ) (xs l : List ℕ) (vs old : Vars) (w : World) → Outside s r → fr.free ≤ t → p ≤ w.peak → Agrees fr l old → Kept fr.free t vs old
       → Runs (Value fr t vs) (ns_called y (aligned 2 x) xs s l w) (after_call r.after (piece.kind_of y) t old (low p w) (ns_call x xs (low p w)))
   unfolding ns_call
   ns_value s y t x p xs l vs old w like nt le g k = test (in_row 0 (aligned 2 x))
@@ -229,7 +226,7 @@ module _ (fr : Frame) (good : IsFrame fr) (r : Site) (room : r.block + fr.bytes 
       test true = outside_value y t l vs old _ _ nt g k (like (aligned 2 x) xs w p le)
       test false = stops (Value fr t vs) CallTarget w p le
 
-  pub ns_call_does : (s : Around) (y : CType) (a : Part ℕ) (d : Codes) (es : List Sense) (cs : List Operand) → Outside s → D a d → AllDo s es cs
+  pub ns_call_does : (s : Around) (y : CType) (a : Part ℕ) (d : Codes) (es : List Sense) (cs : List Operand) → Outside s r → D a d → AllDo s es cs
       → D (λ l w. then_with (a l w) (λ x m u. then_with (values_from [] es s m u) (λ xs n v. ns_called y (aligned 2 x) xs s n v))) (λ t. d t ++ (code.all_codes (t + 1) cs ++ mid.NsCall t t (places (t + 1) (length cs)) (piece.kind_of y) ∷ []))
   ns_call_does s y a d es cs like h ds = record { by = λ t nt l vs w p le g.
       let ps = places (t + 1) (length cs) in
