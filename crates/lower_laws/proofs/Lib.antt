@@ -6,3 +6,4 @@ pub mod Writes
 pub mod Steps
 pub mod Operands
 pub mod Exprs
+pub mod Flows
