@@ -109,7 +109,7 @@ module _ (fr : Frame) (gives : Bool) where
   then_acts y (Ends q w) o f g r h = let e = r.by in record { by = record { peak = e.peak; less = e.less; is = ap (λ z. then_do z g) e.is } }
 
   -- one block less around
-  returned_caught : (r : Option ℕ) (a b x : ℕ) (l : List ℕ) (w : World) (o : Out) → a ≡ suc b → Returned (farther a r) x l w o → Returned (farther b r) x l w (caught o)
+  pub returned_caught : (r : Option ℕ) (a b x : ℕ) (l : List ℕ) (w : World) (o : Out) → a ≡ suc b → Returned (farther a r) x l w o → Returned (farther b r) x l w (caught o)
   returned_caught None a b x l w o e h = record { value = h.value; peak = h.peak; less = h.less; is = ap caught h.is; holds = h.holds }
   returned_caught (Some k) a b x l w o e h =
       let f : k + a ≡ suc (k + b) = omega (arith, e) in

@@ -7,3 +7,4 @@ pub mod Steps
 pub mod Operands
 pub mod Exprs
 pub mod Flows
+pub mod Switches
