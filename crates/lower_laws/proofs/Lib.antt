@@ -8,3 +8,4 @@ pub mod Operands
 pub mod Exprs
 pub mod Flows
 pub mod Switches
+pub mod Nests

@@ -98,13 +98,13 @@ record Jumped (fr : Frame) (x : ℕ) (l : List ℕ) (w : World) (f : Option ℕ)
   locals : Agrees fr l new
 
 -- and then the default
-record Sent (fr : Frame) (l : List ℕ) (w : World) (k : ℕ) (o : Out) : Type 0 where
-  new : Vars
-  is : o ≡ Broke k new w
-  locals : Agrees fr l new
+pub record Sent (fr : Frame) (l : List ℕ) (w : World) (k : ℕ) (o : Out) : Type 0 where
+  pub new : Vars
+  pub is : o ≡ Broke k new w
+  pub locals : Agrees fr l new
 
 module _ (fr : Frame) (good : IsFrame fr) (r : Site) where
-  last_is : (m : MidStmt) (vs : Vars) (w : World) → run_all r (m ∷ []) vs w ≡ run r m vs w
+  pub last_is : (m : MidStmt) (vs : Vars) (w : World) → run_all r (m ∷ []) vs w ≡ run r m vs w
   last_is m vs w = ends (run r m vs w)
     where
       ends : (o : Out) → then_do o (λ us u. Next us u) ≡ o
@@ -160,7 +160,7 @@ module _ (fr : Frame) (good : IsFrame fr) (r : Site) where
           let s = steps ∙ ap (λ z. then_do (where_set z (run_all r (mid.Break i ∷ []) two w) (run_all r [] two w)) (run_all r more)) (h ∙ ap truth e) in
           record { new = j.new; is = s ∙ j.is ∙ ap (λ z. jump_out (case_label z (i + 1) ps) j.new w) b; holds = j.holds ∙ b; locals = j.locals }
 
-  sent : (ps : List Piece) (l : List ℕ) (vs : Vars) (w : World) → Agrees fr l vs → Sent fr l w (unwrap_or (case_label (vs fr.free) 0 ps) (default_label 0 ps)) (run_all r (dispatch fr.free ps) vs w)
+  pub sent : (ps : List Piece) (l : List ℕ) (vs : Vars) (w : World) → Agrees fr l vs → Sent fr l w (unwrap_or (case_label (vs fr.free) 0 ps) (default_label 0 ps)) (run_all r (dispatch fr.free ps) vs w)
   sent ps l vs w g = let j = jumped ps 0 l vs w g in by (case_label (vs fr.free) 0 ps) j.new j.is j.locals
     where
       last : MidStmt
