@@ -90,7 +90,7 @@ module _ (around : numbers.Around) (fr : Frame) (good : IsFrame fr) (s : Around)
   place_fit : (y : CType) (p : Around → Part Spot) (z : Place) → S (p s) z → KindFit (mean.as_place y p) (code.as_place y z)
   place_fit y p z h = record { does = read_does fr good r like.room y (p s) z h; place = h }
 
-  local_stands : (n : ℕ) → n < length fr.homes → S (λ l w. Has (spot_in s.block (slice_get s.offsets n) n) l w) (place_at (slice_get fr.homes n))
+  pub local_stands : (n : ℕ) → n < length fr.homes → S (λ l w. Has (spot_in s.block (slice_get s.offsets n) n) l w) (place_at (slice_get fr.homes n))
   local_stands n lt = let h = slice_index_or fr.homes n (Placed 0) in let e = slice_get-get_or fr.homes n (Placed 0) lt in subst (λ z. S (λ l w. Has (spot_in s.block (slice_get s.offsets n) n) l w) (place_at z)) (sym e) (by_home h e)
     where
       by_home : (h : Home) → slice_get fr.homes n ≡ Some h → S (λ l w. Has (spot_in s.block (slice_get s.offsets n) n) l w) (place_at (Some h))

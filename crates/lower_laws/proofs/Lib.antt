@@ -9,3 +9,4 @@ pub mod Exprs
 pub mod Flows
 pub mod Switches
 pub mod Nests
+pub mod Stmts
