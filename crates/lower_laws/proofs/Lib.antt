@@ -10,3 +10,4 @@ pub mod Flows
 pub mod Switches
 pub mod Nests
 pub mod Stmts
+pub mod EntryLaws
