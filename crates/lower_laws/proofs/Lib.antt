@@ -11,3 +11,7 @@ pub mod Switches
 pub mod Nests
 pub mod Stmts
 pub mod EntryLaws
+pub mod FrameLaws
+pub mod Blocks
+pub mod Params
+pub mod Calls
