@@ -15,3 +15,4 @@ pub mod FrameLaws
 pub mod Blocks
 pub mod Params
 pub mod Calls
+pub mod PieceCosts
