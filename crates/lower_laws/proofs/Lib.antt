@@ -16,3 +16,4 @@ pub mod Blocks
 pub mod Params
 pub mod Calls
 pub mod PieceCosts
+pub mod ExprCosts
