@@ -17,3 +17,4 @@ pub mod Params
 pub mod Calls
 pub mod PieceCosts
 pub mod ExprCosts
+pub mod StmtCosts
