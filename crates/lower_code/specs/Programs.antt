@@ -22,7 +22,7 @@ use Rattle.mid_ir.specs.declared.program.MidFn.{MidFn}
 use Rattle.mid_ir.specs.Conditions.{Mid}
 use Rattle.lower_code.specs.Frames.{Home, Variable, Placed, Frame, frame_of}
 use Rattle.lower_code.specs.Pieces.{kind_of, store}
-use Rattle.lower_code.specs.Stmts.{Ways, coded}
+use Rattle.lower_code.specs.Stmts.{Ways, block, coded}
 
 -- ---- whether a function gives anything
 
@@ -79,12 +79,12 @@ abbrev pub all_homed : Frame → ℕ → List TLocal → List MidStmt
 all_homed fr v [] = []
 all_homed fr v (x ∷ xs) = homed x.ctype (slice_get fr.homes v) v fr.free ++ all_homed fr (suc v) xs
 
--- a body begins inside of no loop
+-- A body is a block, which a `break` or `continue` outside of any loop leaves, as no checked program has it.
 abbrev pub outermost : Ways
 outermost = record { breaks = 0; continues = 0; returns = None }
 
 abbrev pub body_code : Frame → TFunction → List MidStmt
-body_code fr f = all_homed fr 0 f.params ++ coded fr f.body outermost
+body_code fr f = all_homed fr 0 f.params ++ block (coded fr f.body outermost) ∷ []
 
 -- the name of a static function has a point and its unit behind it
 abbrev pub name_of : TFunction → List ℕ

@@ -50,7 +50,9 @@ use Rattle.lower_code.specs.Programs.{bare, looks_empty, gives, all_homed, outer
 use Rattle.lower_laws.specs.Likeness.{IsHome, Like}
 use Rattle.lower_laws.specs.Follows.{Follows}
 use Rattle.lower_laws.proofs.Straight.{kind_is}
-use Rattle.lower_laws.proofs.Flows.{leading, Acts, closes}
+use Rattle.lower_laws.proofs.Flows.{ending, Acts, whole_acts, closes}
+use Rattle.lower_laws.proofs.Switches.{last_is}
+use Rattle.lower_laws.proofs.Nests.{block_is}
 use Rattle.lower_laws.proofs.Stmts.{all_good}
 use Rattle.lower_laws.proofs.EntryLaws.{AlikeFirst, Enters, first_phase, first_runs}
 use Rattle.lower_laws.proofs.FrameLaws.{is_frame, homes_many, home_from, From, offset_within, offsets_length, params_free, block_by_eight}
@@ -201,18 +203,20 @@ module _ (p : Program) (good : IsProgram p) (enters : ℕ → Option ℕ) (fits 
     -- the body, from the first values on
     body_alike : (args : List ℕ) (w : World) (q : ℕ) → q ≤ w.peak → Alike (tree.closing (runs f s (first_values f args) w)) (whole.closing (gives f) (run r (mid.Seq (body_code fr f)) (first_vars f args) (low q w)))
     body_alike args w q lq =
-        let y = leading outermost in
+        let whole_body = code.block (code.coded fr f.body outermost) in
         let many = homes_many (homes p.globals) f in
         let g = is_frame (homes p.globals) f in
         let l = first_values f args in
         let vs = first_vars f args in
         let agrees = first_agrees (homes p.globals) f args in
         let body = all_good around fr g s r like (sym many) (gives f) (comes f) (λ h x. given_result f.entry (bare f.body) (look f.ctype) x h) f.body is.numbers (bare_or_comes f.entry (looks_empty (look f.ctype)) (bare f.body)) outermost in
-        closes fr (gives f) 0 0 _ _
-        (subst (λ o. Acts fr (gives f) y (runs f s l w) o) (sym (run_Seq r (body_code fr f) vs (low q w) ∙ run_all_append r (all_homed fr 0 f.params) (code.coded fr f.body outermost) vs (low q w)))
-        (stays_acts fr (gives f) y l _ _ (does f.body s) (run_all r (code.coded fr f.body outermost))
+        closes fr (gives f) _ _
+        (subst (λ o. Acts fr (gives f) ending (runs f s l w) o) (sym (run_Seq r (body_code fr f) vs (low q w) ∙ run_all_append r (all_homed fr 0 f.params) (whole_body ∷ []) vs (low q w)))
+        (stays_acts fr (gives f) ending l _ _ (does f.body s) (run_all r (whole_body ∷ []))
         (all_homed_runs names fr g s r like f.params 0 (omega (arith, few)) (omega (arith, many)) l vs w q lq agrees (λ i a b. params_agree f args i (omega (arith, b))))
-        (λ new w q lq g. body l new w q lq g)))
+        (λ new w q lq h.
+        subst (λ o. Acts fr (gives f) ending (does f.body s l w) o) (sym (last_is fr g r whole_body new (low q w) ∙ block_is r (code.coded fr f.body outermost) new (low q w)))
+        (whole_acts fr (gives f) _ _ (body l new w q lq h)))))
 
   activation_alike : (deep : ℕ) → CallsAlike deep → (f : TFunction) → IsFunction names f → (from_ns : Bool) (top load less : ℕ) → less ≤ load → 0x30000000 ≤ top → (args : List ℕ) (w : World) (q : ℕ) → q ≤ w.peak
       → Alike (mean.activation p enters turns (mean.call p enters turns deep) from_ns load top f args w)

@@ -15,6 +15,7 @@ use Rattle.mid_ir.specs.Whole.{given}
 use Rattle.mid_ir.specs.Whole as whole
 use Rattle.lower_code.specs.Frames.{Frame}
 use Rattle.lower_code.specs.Stmts.{Ways, farther, in_loop, in_first}
+use Rattle.lower_code.specs.Programs.{outermost}
 use Rattle.lower_laws.proofs.Relate.{Agrees, Kept, Halts, halts, Runs, Value, then_value}
 
 -- it goes this way, and the locals agree
@@ -46,6 +47,10 @@ leading y = record { next = Next; breaks = Broke y.breaks; continues = Broke y.c
 -- of a turn of a loop
 abbrev pub turning : Option ℕ → Leads
 turning r = record { next = Next; breaks = Broke 0; continues = Next; returns = r }
+
+-- of a whole body
+abbrev pub ending : Leads
+ending = record { next = Next; breaks = Next; continues = Next; returns = None }
 
 module _ (fr : Frame) (gives : Bool) where
   abbrev pub Returned : Option ℕ → ℕ → List ℕ → World → Out → Type 0
@@ -157,10 +162,18 @@ module _ (fr : Frame) (gives : Bool) where
   first_acts y (Has (flow.Return x) l w) o f g b h = let e = b.by in subst (λ z. Acts y (f l w) (then_do (caught z) g)) (sym e.is) (h l e.new w e.peak e.less e.locals)
   first_acts y (Ends q w) o f g b h = let e = b.by in record { by = record { peak = e.peak; less = e.less; is = ap (λ z. then_do (caught z) g) e.is } }
 
-  -- the end of a body
-  pub closes : (b c : ℕ) (a : tree.Out Flow) (o : Out) → Acts (leading (record { breaks = b; continues = c; returns = None })) a o → Alike (tree.closing a) (whole.closing gives o)
-  closes b c (Has flow.Next l w) o r = let e = r.by in record { by = (e.peak, e.less, ap (whole.closing gives) e.is) }
-  closes b c (Has flow.Break l w) o r = let e = r.by in record { by = (e.peak, e.less, ap (whole.closing gives) e.is) }
-  closes b c (Has flow.Continue l w) o r = let e = r.by in record { by = (e.peak, e.less, ap (whole.closing gives) e.is) }
-  closes b c (Has (flow.Return x) l w) o r = let e = r.by in record { by = (e.peak, e.less, ap (whole.closing gives) e.is ∙ ap (λ z. Gave z (low e.peak w)) e.holds) }
-  closes b c (Ends q w) o r = let e = r.by in record { by = (e.peak, e.less, ap (whole.closing gives) e.is) }
+  -- a body in its block
+  pub whole_acts : (a : tree.Out Flow) (o : Out) → Acts (leading outermost) a o → Acts ending a (caught o)
+  whole_acts (Has flow.Next l w) o r = let e = r.by in record { by = record { new = e.new; peak = e.peak; less = e.less; is = ap caught e.is; locals = e.locals } }
+  whole_acts (Has flow.Break l w) o r = let e = r.by in record { by = record { new = e.new; peak = e.peak; less = e.less; is = ap caught e.is; locals = e.locals } }
+  whole_acts (Has flow.Continue l w) o r = let e = r.by in record { by = record { new = e.new; peak = e.peak; less = e.less; is = ap caught e.is; locals = e.locals } }
+  whole_acts (Has (flow.Return x) l w) o r = let e = r.by in record { by = record { value = e.value; peak = e.peak; less = e.less; is = ap caught e.is; holds = e.holds } }
+  whole_acts (Ends q w) o r = let e = r.by in record { by = record { peak = e.peak; less = e.less; is = ap caught e.is } }
+
+  -- its end
+  pub closes : (a : tree.Out Flow) (o : Out) → Acts ending a o → Alike (tree.closing a) (whole.closing gives o)
+  closes (Has flow.Next l w) o r = let e = r.by in record { by = (e.peak, e.less, ap (whole.closing gives) e.is) }
+  closes (Has flow.Break l w) o r = let e = r.by in record { by = (e.peak, e.less, ap (whole.closing gives) e.is) }
+  closes (Has flow.Continue l w) o r = let e = r.by in record { by = (e.peak, e.less, ap (whole.closing gives) e.is) }
+  closes (Has (flow.Return x) l w) o r = let e = r.by in record { by = (e.peak, e.less, ap (whole.closing gives) e.is ∙ ap (λ z. Gave z (low e.peak w)) e.holds) }
+  closes (Ends q w) o r = let e = r.by in record { by = (e.peak, e.less, ap (whole.closing gives) e.is) }

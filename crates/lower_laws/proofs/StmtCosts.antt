@@ -41,7 +41,7 @@ break_cost k = cost_Break k
 
 -- code for a statement of depth d with n nodes
 abbrev pub StmtFew : ℕ → ℕ → Codes → Type 0
-StmtFew d n c = (y : Ways) → all_cost (c y) + 8 * d ≤ 256 * n
+StmtFew d n c = (y : Ways) → all_cost (c y) + 8 * d + 16 ≤ 256 * n
 
 abbrev pub PartFew : ℕ → ℕ → Piece → Type 0
 PartFew d n (Case x) = 8 * d + 200 ≤ 256 * n
@@ -193,7 +193,7 @@ module _ (fr : Frame) where
   nest_few y (d ∷ ds) [] ps x m i before = elim x [ ]
   nest_few y (d ∷ ds) (n ∷ ns) [] x m i before = elim x [ ]
 
-  switch_few : (v : Expr) (ds ns : List ℕ) (ps : List Piece) → AllParts ds ns ps → (y : Ways) → all_cost (expr.code fr v fr.free ++ block (nest y (dispatch fr.free ps) ps) ∷ []) + 8 * max (depth v) (greatest ds) ≤ 256 * (nodes v + sum ns + 1)
+  switch_few : (v : Expr) (ds ns : List ℕ) (ps : List Piece) → AllParts ds ns ps → (y : Ways) → all_cost (expr.code fr v fr.free ++ block (nest y (dispatch fr.free ps) ps) ∷ []) + 8 * max (depth v) (greatest ds) + 16 ≤ 256 * (nodes v + sum ns + 1)
   switch_few v ds ns ps h y =
       let m = fr.free in
       let a = value v m in
@@ -237,7 +237,7 @@ module _ (fr : Frame) where
   parts_good [] = no_part
   parts_good (x ∷ xs) = part x.1 (parts_good xs)
 
-  if_few : (e : Expr) (d f n m : ℕ) (on off : List MidStmt) → all_cost on + 8 * d ≤ 256 * n → all_cost off + 8 * f ≤ 256 * m → all_cost (expr.code fr e fr.free ++ choose fr.free on off ∷ []) + 8 * max (max (depth e) d) f ≤ 256 * (nodes e + n + m + 1)
+  if_few : (e : Expr) (d f n m : ℕ) (on off : List MidStmt) → all_cost on + 8 * d ≤ 256 * n → all_cost off + 8 * f ≤ 256 * m → all_cost (expr.code fr e fr.free ++ choose fr.free on off ∷ []) + 8 * max (max (depth e) d) f + 16 ≤ 256 * (nodes e + n + m + 1)
   if_few e d f n m on off h i =
       let a = value e fr.free in
       let b = choose_cost fr.free on off in
@@ -249,8 +249,8 @@ module _ (fr : Frame) where
   stmt_good (k.Expr e) = at_layer (k.Expr e) (λ y. let a = value e fr.free in omega (arith, a))
   stmt_good (k.Declare n is) = at_layer (k.Declare n is) (λ y. let a = items_few (slice_get fr.homes n) is in omega (arith, a))
   stmt_good (k.Block xs) = at_layer (k.Block (map (λ (x : GoodS). x.0) xs)) (λ y. let a = list_few _ _ _ (list_good xs) y in omega (arith, a))
-  stmt_good (k.If test on None) = at_layer (k.If test on.0 None) (λ y. if_few test _ 0 _ 0 _ [] (on.1 y) (omega arith))
-  stmt_good (k.If test on (Some off)) = at_layer (k.If test on.0 (Some off.0)) (λ y. if_few test _ _ _ _ _ _ (on.1 y) (off.1 y))
+  stmt_good (k.If test on None) = at_layer (k.If test on.0 None) (λ y. if_few test _ 0 _ 0 _ [] (let a = on.1 y in omega (arith, a)) (omega arith))
+  stmt_good (k.If test on (Some off)) = at_layer (k.If test on.0 (Some off.0)) (λ y. if_few test _ _ _ _ _ _ (let a = on.1 y in omega (arith, a)) (let a = off.1 y in omega (arith, a)))
   stmt_good (k.While test body) = at_layer (k.While test body.0) (λ y.
       let inner = coded fr body.0 (in_loop y) in
       let a = body.1 (in_loop y) in
@@ -328,7 +328,8 @@ function_few globals f =
     let fr = frame_of globals f in
     let a = all_good fr f.body outermost in
     let b = params_few fr 0 f.params in
-    let c = all_cost_append (all_homed fr 0 f.params) (coded fr f.body outermost) in
+    let c = all_cost_append (all_homed fr 0 f.params) (block (coded fr f.body outermost) ∷ []) in
+    let g = block_cost (coded fr f.body outermost) in
     let d = cost_Seq (body_code fr f) in
     let e = unplaced_few (stmt_taken f.body) (length f.params) f.locals in
-    omega (arith, a, b, c, d, e)
+    omega (arith, a, b, c, d, e, g)
