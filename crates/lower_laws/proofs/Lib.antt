@@ -18,3 +18,4 @@ pub mod Calls
 pub mod PieceCosts
 pub mod ExprCosts
 pub mod StmtCosts
+pub mod PieceRanges
