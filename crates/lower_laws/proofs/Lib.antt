@@ -19,3 +19,4 @@ pub mod PieceCosts
 pub mod ExprCosts
 pub mod StmtCosts
 pub mod PieceRanges
+pub mod ExprRanges
