@@ -100,7 +100,7 @@ module _ (around : numbers.Around) (fr : Frame) (R : Around) (on : Stands around
   two_fits d e a b c l h i j t k nt le =
       append_in R (a t) (b (t + 1) ++ c t) k (h t k nt (omega (arith, le))) (append_in R (b (t + 1)) (c t) k (i (t + 1) k (omega (arith, nt)) (omega (arith, le))) (j t k (omega (arith, le, l))))
 
-  assigned_fits : (y : CType) (d e : ℕ) (z : Place) (b : Codes) → 1 ≤ e → PlaceFits d z → Fits e b → Fits (held 0 (d ∷ e ∷ [])) (code.assigned y z b)
+  pub assigned_fits : (y : CType) (d e : ℕ) (z : Place) (b : Codes) → 1 ≤ e → PlaceFits d z → Fits e b → Fits (held 0 (d ∷ e ∷ [])) (code.assigned y z b)
   assigned_fits y d e (Held v) b l h i t k nt le =
       append_in R (b t) (mid.Set v op.Copy t t ∷ []) k (i t k nt (omega (arith, le)))
       (one_in R (mid.Set v op.Copy t t) k (set_in R v op.Copy t t k (omega (arith, le, nt, h)) (omega (arith, le)) (omega (arith, le))))

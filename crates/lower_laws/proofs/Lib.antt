@@ -20,3 +20,5 @@ pub mod ExprCosts
 pub mod StmtCosts
 pub mod PieceRanges
 pub mod ExprRanges
+pub mod StmtRanges
+pub mod FunctionRanges
