@@ -22,3 +22,4 @@ pub mod PieceRanges
 pub mod ExprRanges
 pub mod StmtRanges
 pub mod FunctionRanges
+pub mod ProgramLaws
