@@ -245,6 +245,9 @@ module _ (around : numbers.Around) (fr : Frame) (R : Around) (on : Stands around
   two_fit : (e f : Expr) (d : Codes) → Fit (depth e) (coded fr e) → Fit (depth f) (coded fr f) → ((t k : ℕ) → t + 3 < R.vars → all_in_range R (d t) k ≡ true) → KindFit (held 0 (depth e ∷ depth f ∷ [])) (code.as_value (λ t. (coded fr e).code t ++ ((coded fr f).code (t + 1) ++ d t)))
   two_fit e f d g h i = value_fit _ _ (omega arith) (two_fits _ _ _ _ d h.least g.fits h.fits i)
 
+  abbrev ranged : GoodE → Bool
+  ranged e = expr_in_range around e.0
+
   kind_good : (x : ExprKind-F GoodK GoodE) → KindGood (roll-ExprKind (layer x))
   kind_good (k.Const n) = at_layer (k.Const n) (λ h y. value_fit _ _ (omega arith) (const_fits 1 n))
   kind_good (k.Local n) = at_layer (k.Local n) (λ h y. place_fit y _ _ (omega arith) (home_fits 1 (slice_get fr.homes n) (on.homes n)))
@@ -258,41 +261,41 @@ module _ (around : numbers.Around) (fr : Frame) (R : Around) (on : Stands around
   kind_good (k.PtrAdd e f size) = at_layer (k.PtrAdd e.0 f.0 size) (λ h y. two_fit e.0 f.0 (moved_by size) (e.1 (both_left _ _ h)) (f.1 (both_right _ _ h)) (λ t k q. moved_in R size t k (omega (arith, q))))
   kind_good (k.PtrDiff e f size) = at_layer (k.PtrDiff e.0 f.0 size) (λ h y. two_fit e.0 f.0 (apart size) (e.1 (both_left _ _ h)) (f.1 (both_right _ _ h)) (λ t k q. apart_in R size t k (omega (arith, q))))
   kind_good (k.And e f) = at_layer (k.And e.0 f.0) (λ h y.
-      let g : Fit (depth e.0) (coded fr e.0) = e.1 (both_left _ _ h) in
-      let i : Fit (depth f.0) (coded fr f.0) = f.1 (both_right _ _ h) in
+      let g : Fit (depth e.0) (coded fr e.0) = e.1 (both_left (ranged e) (ranged f) h) in
+      let i : Fit (depth f.0) (coded fr f.0) = f.1 (both_right (ranged e) (ranged f) h) in
       let l = g.least in
       value_fit _ _ (omega (arith, l)) (λ t k nt le.
       let yes_code = (coded fr f.0).code t ++ truth t in
       append_in R ((coded fr e.0).code t) (choose t yes_code (mid.Const t 0 ∷ []) ∷ []) k (g.fits t k nt (omega (arith, le)))
       (one_in R _ k (choose_in R t yes_code (mid.Const t 0 ∷ []) k (omega (arith, le)) (append_in R ((coded fr f.0).code t) (truth t) k (i.fits t k nt (omega (arith, le))) (truth_in R t k (omega (arith, le)))) (const_fits 0 0 t k nt (omega (arith, le)))))))
   kind_good (k.Or e f) = at_layer (k.Or e.0 f.0) (λ h y.
-      let g : Fit (depth e.0) (coded fr e.0) = e.1 (both_left _ _ h) in
-      let i : Fit (depth f.0) (coded fr f.0) = f.1 (both_right _ _ h) in
+      let g : Fit (depth e.0) (coded fr e.0) = e.1 (both_left (ranged e) (ranged f) h) in
+      let i : Fit (depth f.0) (coded fr f.0) = f.1 (both_right (ranged e) (ranged f) h) in
       let l = g.least in
       value_fit _ _ (omega (arith, l)) (λ t k nt le.
       let off_code = (coded fr f.0).code t ++ truth t in
       append_in R ((coded fr e.0).code t) (choose t (mid.Const t 1 ∷ []) off_code ∷ []) k (g.fits t k nt (omega (arith, le)))
       (one_in R _ k (choose_in R t (mid.Const t 1 ∷ []) off_code k (omega (arith, le)) (const_fits 0 1 t k nt (omega (arith, le))) (append_in R ((coded fr f.0).code t) (truth t) k (i.fits t k nt (omega (arith, le))) (truth_in R t k (omega (arith, le))))))))
   kind_good (k.Cond e f g) = at_layer (k.Cond e.0 f.0 g.0) (λ h y.
-      let a : Fit (depth e.0) (coded fr e.0) = e.1 (both_left _ _ h) in
-      let b : Fit (depth f.0) (coded fr f.0) = f.1 (both_left _ _ (both_right _ _ h)) in
-      let c : Fit (depth g.0) (coded fr g.0) = g.1 (both_right _ _ (both_right _ _ h)) in
+      let a : Fit (depth e.0) (coded fr e.0) = e.1 (both_left (ranged e) (ranged f && ranged g) h) in
+      let b : Fit (depth f.0) (coded fr f.0) = f.1 (both_left (ranged f) (ranged g) (both_right (ranged e) (ranged f && ranged g) h)) in
+      let c : Fit (depth g.0) (coded fr g.0) = g.1 (both_right (ranged f) (ranged g) (both_right (ranged e) (ranged f && ranged g) h)) in
       let l = a.least in
       value_fit _ _ (omega (arith, l)) (λ t k nt le.
       append_in R ((coded fr e.0).code t) (choose t ((coded fr f.0).code t) ((coded fr g.0).code t) ∷ []) k (a.fits t k nt (omega (arith, le)))
       (one_in R _ k (choose_in R t ((coded fr f.0).code t) ((coded fr g.0).code t) k (omega (arith, le)) (b.fits t k nt (omega (arith, le))) (c.fits t k nt (omega (arith, le)))))))
   kind_good (k.Assign e f) = at_layer (k.Assign e.0 f.0) (λ h y.
-      let a : Fit (depth e.0) (coded fr e.0) = e.1 (both_left _ _ h) in
-      let b : Fit (depth f.0) (coded fr f.0) = f.1 (both_right _ _ h) in
+      let a : Fit (depth e.0) (coded fr e.0) = e.1 (both_left (ranged e) (ranged f) h) in
+      let b : Fit (depth f.0) (coded fr f.0) = f.1 (both_right (ranged e) (ranged f) h) in
       value_fit _ _ (omega arith) (assigned_fits y _ _ (coded fr e.0).place _ b.least a.place b.fits))
   kind_good (k.AssignOp o e f) = at_layer (k.AssignOp o e.0 f.0) (λ h y.
-      let a : Fit (depth e.0) (coded fr e.0) = e.1 (both_left _ _ h) in
-      let b : Fit (depth f.0) (coded fr f.0) = f.1 (both_right _ _ h) in
+      let a : Fit (depth e.0) (coded fr e.0) = e.1 (both_left (ranged e) (ranged f) h) in
+      let b : Fit (depth f.0) (coded fr f.0) = f.1 (both_right (ranged e) (ranged f) h) in
       value_fit _ _ (omega arith) (assigned_op_fits (record { op = o; place = y; operand = (coded fr f.0).ctype }) _ _ (coded fr e.0).place _ b.least a.place b.fits))
   kind_good (k.Step e by old) = at_layer (k.Step e.0 by old) (λ h y. let a = e.1 h in value_fit _ _ a.least (stepped_fits y by _ old (coded fr e.0).place a.place))
   kind_good (k.Comma e f) = at_layer (k.Comma e.0 f.0) (λ h y.
-      let a : Fit (depth e.0) (coded fr e.0) = e.1 (both_left _ _ h) in
-      let b : Fit (depth f.0) (coded fr f.0) = f.1 (both_right _ _ h) in
+      let a : Fit (depth e.0) (coded fr e.0) = e.1 (both_left (ranged e) (ranged f) h) in
+      let b : Fit (depth f.0) (coded fr f.0) = f.1 (both_right (ranged e) (ranged f) h) in
       let l = a.least in
       value_fit _ _ (omega (arith, l)) (λ t k nt le. append_in R ((coded fr e.0).code t) ((coded fr f.0).code t) k (a.fits t k nt (omega (arith, le))) (b.fits t k nt (omega (arith, le)))))
   kind_good (k.Call n es) = at_layer (k.Call n (map (λ (e : GoodE). e.0) es)) (λ h y.
@@ -305,9 +308,9 @@ module _ (around : numbers.Around) (fr : Frame) (R : Around) (on : Stands around
       let few : length (map (expr_in_range around) trees) ≤ 4 = grind (arith, four) in
       value_fit _ _ (held_least 0 (depth p.0 ∷ map depth trees)) (ns_call_fits _ _ _ _ y (p.1 (both_left _ _ (both_right _ _ h))).fits (all_fit es (both_right _ _ (both_right _ _ h))) (omega (arith, many, few))))
   kind_good (k.Range e f g) = at_layer (k.Range e.0 f.0 g.0) (λ h y.
-      let a : Fit (depth e.0) (coded fr e.0) = e.1 (both_left _ _ h) in
-      let b : Fit (depth f.0) (coded fr f.0) = f.1 (both_left _ _ (both_right _ _ h)) in
-      let c : Fit (depth g.0) (coded fr g.0) = g.1 (both_right _ _ (both_right _ _ h)) in
+      let a : Fit (depth e.0) (coded fr e.0) = e.1 (both_left (ranged e) (ranged f && ranged g) h) in
+      let b : Fit (depth f.0) (coded fr f.0) = f.1 (both_left (ranged f) (ranged g) (both_right (ranged e) (ranged f && ranged g) h)) in
+      let c : Fit (depth g.0) (coded fr g.0) = g.1 (both_right (ranged f) (ranged g) (both_right (ranged e) (ranged f && ranged g) h)) in
       value_fit _ _ (omega arith) (range_fits _ _ _ _ _ _ c.least a.fits b.fits c.fits))
   kind_good (k.NsCreate e) = at_layer (k.NsCreate e.0) (λ h y. one_fit e.0 cleared (e.1 h) (λ t k q. cleared_in R t k q))
   kind_good (k.NsTest e) = at_layer (k.NsTest e.0) (λ h y. one_fit e.0 is_even (e.1 h) (λ t k q. even_in R t k q))
