@@ -10,11 +10,10 @@ use Rattle.c_tree.specs.declared.expr.ExprKind.TheOpen as k
 use Rattle.c_tree.specs.declared.expr.ExprKind.TheOpen.{ExprKind-F, Expr-F}
 use Rattle.c_tree.specs.declared.expr.ExprKind.TheFolds.{map-ExprKind, fold_out-Expr, fold-roll-ExprKind}
 use Rattle.c_const.specs.Operate.{is_signed}
-use Rattle.mid_ir.specs.declared.stmt.MidStmt.{MidStmt}
 use Rattle.mid_ir.specs.declared.stmt.MidStmt.TheVariants as mid
 use Rattle.lower_code.specs.Frames.{Frame}
 use Rattle.lower_code.specs.Pieces.{kind_of, convert, operation, operation_one, truth, moved_by, apart, cleared, is_even, choose, places}
-use Rattle.lower_code.specs.Exprs.{Codes, Fixed, Place, Based, Computed, nowhere, address, place_at, member, read, assigned, Change, assigned_op, stepped, Coded, Operand, kind_step, expr_step, coded, kind_coded, code, place, all_codes}
+use Rattle.lower_code.specs.Exprs.{Fixed, Based, Computed, address, place_at, member, read, assigned, assigned_op, stepped, Coded, Operand, kind_step, expr_step, coded, kind_coded, code, place, all_codes}
 
 coded_is : (fr : Frame) (e : Expr) → coded fr e ≡ expr_step (record { kind = kind_coded fr e.kind; ctype = e.ctype; place = e.place })
 coded_is fr e = fold_out-Expr (CType → Coded) Operand (kind_step fr) expr_step e ∙ ap (λ z. expr_step (record { kind = kind_coded fr z.kind; ctype = z.ctype; place = z.place })) (outs-Expr' e)

@@ -1,5 +1,5 @@
 -- The code of each kind of statement, as an equation.
-use Rattle.std.proofs.Common.{◌≡◌, ℕ, List, [], ◌∷◌, ◌++◌, map, refl, sym, ap, ◌∙◌, slice_get, Option, Some, None}
+use Rattle.std.proofs.Common.{◌≡◌, ℕ, List, [], ◌∷◌, ◌++◌, map, sym, ap, ◌∙◌, slice_get, Option, Some, None}
 use Rattle.c_tree.specs.declared.expr.Expr.{Expr}
 use Rattle.c_tree.specs.declared.stmt.Item.{Item}
 use Rattle.c_tree.specs.declared.stmt.Stmt.{Stmt, roll-Stmt}
@@ -9,7 +9,6 @@ use Rattle.c_tree.specs.declared.stmt.Part.TheVariants as p
 use Rattle.c_tree.specs.declared.stmt.Part.TheOpen as k
 use Rattle.c_tree.specs.declared.stmt.Part.TheOpen.{Stmt-F, Part-F}
 use Rattle.c_tree.specs.declared.stmt.Part.TheFolds.{map-Stmt, map-Part, fold-roll-Stmt, fold-roll-Part}
-use Rattle.mid_ir.specs.declared.stmt.MidStmt.{MidStmt}
 use Rattle.mid_ir.specs.declared.stmt.MidStmt.TheVariants as mid
 use Rattle.lower_code.specs.Frames.{Frame}
 use Rattle.lower_code.specs.Pieces.{choose}

@@ -1,5 +1,5 @@
 -- The code of expressions, by folds over the typed tree. It leaves the value in the first free variable.
-use Rattle.std.specs.Prelude.{ℕ, zero, suc, ◌+◌, Bool, true, false, cond, eqb, leb, List, [], ◌∷◌, ◌++◌, map, length, slice_get, slice_index, Option, Some, None}
+use Rattle.std.specs.Prelude.{ℕ, ◌+◌, Bool, true, false, cond, leb, List, [], ◌∷◌, ◌++◌, length, slice_get, slice_index, Option, Some, None}
 use Rattle.ns_types.specs.Operators.{wrapped}
 use Rattle.c_types.specs.declared.ctype.CType.{CType}
 use Rattle.c_types.specs.Kind.{referenced}

@@ -1,6 +1,5 @@
 -- Pieces of code: conversions, accesses and operators.
-use Rattle.std.specs.Prelude.{ℕ, zero, suc, ◌+◌, Bool, true, false, cond, eqb, leb, List, [], ◌∷◌, ◌++◌, Option, Some, None}
-use Rattle.ns_types.specs.Operators.{wrapped}
+use Rattle.std.specs.Prelude.{ℕ, zero, suc, ◌+◌, Bool, true, false, cond, eqb, List, [], ◌∷◌, ◌++◌, Option, Some, None}
 use Rattle.c_types.specs.declared.arith.Arith.{Arith}
 use Rattle.c_types.specs.declared.arith.Arith.TheVariants as a
 use Rattle.c_types.specs.declared.ctype.CType.{CType}
@@ -13,7 +12,6 @@ use Rattle.c_tree.specs.declared.expr.UnOp.TheVariants as un
 use Rattle.c_mean.specs.Values.{value_size}
 use Rattle.mid_ir.specs.declared.stmt.MidStmt.{MidStmt}
 use Rattle.mid_ir.specs.declared.stmt.MidStmt.TheVariants as mid
-use Rattle.mid_ir.specs.declared.stmt.SetOp.{SetOp}
 use Rattle.mid_ir.specs.declared.stmt.SetOp.TheVariants as op
 
 -- ---- conversions

@@ -11,10 +11,9 @@ use Rattle.c_tree.specs.Slots.{slots}
 use Rattle.c_tree.specs.declared.program.TFunction.{TFunction}
 use Rattle.c_tree.specs.declared.program.TLocal.{TLocal}
 use Rattle.c_tree.specs.declared.stmt.Stmt.{Stmt}
-use Rattle.c_tree.specs.declared.stmt.Part.{Part}
 use Rattle.c_tree.specs.declared.stmt.Part.TheOpen as s
 use Rattle.c_tree.specs.declared.stmt.Part.TheOpen.{Stmt-F, Part-F}
-use Rattle.c_tree.specs.declared.stmt.Part.TheFolds.{fold-Stmt, fold-Part}
+use Rattle.c_tree.specs.declared.stmt.Part.TheFolds.{fold-Stmt}
 use Rattle.c_mean.specs.Homes.{homes, contents, data_stack, block_bytes}
 use Rattle.mid_ir.specs.declared.stmt.MidStmt.{MidStmt}
 use Rattle.mid_ir.specs.declared.stmt.MidStmt.TheVariants as mid

@@ -1,10 +1,10 @@
 -- Reads and writes of memory.
-use Rattle.std.proofs.Common.{◌≡◌, ℕ, zero, suc, ◌+◌, ◌%◌, ◌<◌, ◌≤◌, ◌||◌, Bool, true, false, cond, List, [], ◌∷◌, ◌++◌, map, refl, sym, ap, ◌∙◌, subst, arith, append_assoc, Result, Ok, Err, Option, Some, None, slice_index}
+use Rattle.std.proofs.Common.{◌≡◌, ℕ, ◌<◌, ◌≤◌, ◌||◌, Bool, true, false, cond, List, [], ◌∷◌, ◌++◌, map, refl, sym, ap, ◌∙◌, subst, arith, append_assoc, Result, Ok, Err, Option, Some, None}
 use Rattle.std.proofs.lemmas.List.{append-nil}
 use Rattle.cm_base.specs.declared.stop.Stop.{Stop}
 use Rattle.ns_types.specs.declared.event.CEvent.{CEvent}
 use Rattle.ns_types.specs.State.{Memory, device_of}
-use Rattle.ns_types.specs.Platform.{row, in_row}
+use Rattle.ns_types.specs.Platform.{in_row}
 use Rattle.ns_types.specs.Memory.{load, byte_at, half_at}
 use Rattle.ns_types.specs.Access.{read_access, write_access, Written, access_stop, may_read, unless}
 use Rattle.ns_types.specs.CRun.{World, emit_plain}
@@ -14,9 +14,9 @@ use Rattle.c_types.specs.declared.arith.Arith.TheVariants as a
 use Rattle.c_types.specs.declared.ctype.CType.{CType}
 use Rattle.c_types.specs.Kind.{arithmetic}
 use Rattle.c_mean.specs.Parts.{Has, then_with, or_halt}
-use Rattle.c_mean.specs.Values.{Spot, At, converted, converted_as, size_as, value_size, read_spot, write_spot, written, all_emitted}
+use Rattle.c_mean.specs.Values.{At, converted, converted_as, size_as, value_size, read_spot, write_spot, written, all_emitted}
 use Rattle.mid_ir.specs.Activation.{Vars, put, plain, wrote, Site}
-use Rattle.mid_ir.specs.Run.{Out, Next, or_stop, after_write, extended, read, run}
+use Rattle.mid_ir.specs.Run.{Next, or_stop, after_write, extended, read, run}
 use Rattle.mid_ir.proofs.RunLaws.{run_Load, run_Store}
 use Rattle.lower_code.specs.Pieces as code
 use Rattle.lower_laws.proofs.Relate.{Runs, left, stops}

@@ -1,10 +1,9 @@
 -- A block of the data stack is 0 in both forms: by bytes, and by words.
-use Rattle.std.proofs.Common.{◌≡◌, ℕ, zero, suc, ◌+◌, ◌-◌, ◌*◌, ◌/◌, ◌%◌, ◌<◌, ◌≤◌, Bool, true, false, cond, List, [], ◌∷◌, refl, sym, ap, ◌∙◌, subst, arith}
-use Rattle.std.specs.Prelude.{slice_set, leb, ltb, not}
+use Rattle.std.proofs.Common.{◌≡◌, ℕ, zero, suc, ◌+◌, ◌-◌, ◌*◌, ◌/◌, ◌%◌, ◌≤◌, false, cond, List, refl, sym, ap, ◌∙◌, arith}
+use Rattle.std.specs.Prelude.{slice_set}
 use Rattle.ns_types.specs.State.{Memory}
 use Rattle.ns_types.specs.Platform.{in_row, row}
 use Rattle.ns_types.specs.Memory.{store, put_word, put_number}
-use Rattle.ns_types.specs.SecureRam.{ram_place}
 use Rattle.c_mean.specs.Homes as tree
 use Rattle.c_mean.specs.Homes.{zeroed}
 use Rattle.mid_ir.specs.Activation as mid

@@ -1,40 +1,32 @@
 -- Calls, and whole runs.
-use Rattle.std.proofs.Common.{◌≡◌, ℕ, zero, suc, ◌+◌, ◌*◌, ◌/◌, ◌<◌, ◌≤◌, ◌&&◌, ◌||◌, Bool, true, false, cond, not, max, List, [], ◌∷◌, ◌++◌, length, map, filter, refl, sym, ap, ◌∙◌, subst, arith, option_map, All, Option, Some, None, slice_get, slice_index, IsTrue}
+use Rattle.std.proofs.Common.{◌≡◌, ℕ, zero, suc, ◌+◌, ◌*◌, ◌/◌, ◌<◌, ◌≤◌, ◌&&◌, ◌||◌, Bool, true, false, cond, not, max, List, [], ◌∷◌, length, map, filter, refl, sym, ap, ◌∙◌, subst, arith, option_map, All, Option, Some, None, slice_get, slice_index}
 use Rattle.std.specs.Prelude.{ltb, leb, option_and_then, bytes_eq}
 use Rattle.std.proofs.lemmas.Option.{slice_get-map, slice_get_within, get_or_from_slice_get}
 use Rattle.std.proofs.lemmas.List.Elements.{All-get_or}
-use Rattle.cm_base.specs.declared.regions.TheConstants.{SECURE_DATA}
 use Rattle.cm_base.specs.declared.stop.Stop.TheVariants.{DataStack}
 use Rattle.ns_types.specs.declared.event.CEvent.TheVariants as c
 use Rattle.ns_types.specs.declared.event.End.TheVariants as end
-use Rattle.ns_types.specs.declared.event.Bound.{Bound}
-use Rattle.ns_types.specs.declared.event.Veneer.{Veneer}
-use Rattle.ns_types.specs.declared.turn.Start.{Start}
-use Rattle.ns_types.specs.Turns.{Turn}
 use Rattle.ns_types.specs.Boundary.{eight_zeros}
 use Rattle.ns_types.specs.Operators.{truth}
 use Rattle.ns_types.specs.Veneers.{enters_of, name_at, place_of}
-use Rattle.ns_types.specs.CRun.{World, Outcome, Gave, Over, emit, mark_at, reach, stop_with, phase}
-use Rattle.ns_types.specs.Alike.{low, Alike, AlikeRuns}
-use Rattle.ns_types.proofs.AlikeLaws.{alike_over, alike_stop, alike_cond}
+use Rattle.ns_types.specs.CRun.{World, Outcome, emit, mark_at, reach, stop_with}
+use Rattle.ns_types.specs.Alike.{low, Alike}
+use Rattle.ns_types.proofs.AlikeLaws.{alike_over, alike_stop}
 use Rattle.c_types.specs.declared.ctype.Shape.TheOpen as shape
 use Rattle.c_types.specs.Kind.{Look, look, is_void, arithmetic}
-use Rattle.c_types.specs.declared.ctype.CType.{CType}
 use Rattle.c_tree.specs.Conditions.{Program, IsFunction, IsProgram}
 use Rattle.c_tree.specs.Numbers as numbers
 use Rattle.c_tree.specs.Numbers.{Names, names_of_program, has_params}
 use Rattle.c_tree.specs.Slots.{slots}
 use Rattle.c_tree.specs.declared.program.TFunction.{TFunction}
-use Rattle.c_tree.specs.declared.program.TLocal.{TLocal}
-use Rattle.c_mean.specs.Homes as tree_homes
 use Rattle.c_mean.specs.Homes.{homes, data_stack, block_of, block_bytes}
 use Rattle.c_mean.specs.Parts as tree
-use Rattle.c_mean.specs.Values.{Spot, Unplaced, At, spot_in, converted}
+use Rattle.c_mean.specs.Values.{spot_in, converted}
 use Rattle.c_mean.specs.Exprs.{Around}
 use Rattle.c_mean.specs.Stmts.{does}
 use Rattle.c_mean.specs.Calls as mean
 use Rattle.c_mean.specs.Calls.{need, entry_functions, inside, begun, on_function, first_values, runs, result, result_as}
-use Rattle.c_mean.specs.Run.{program_run, first_memory}
+use Rattle.c_mean.specs.Run.{first_memory}
 use Rattle.mid_ir.specs.declared.stmt.MidStmt.TheVariants as mid
 use Rattle.mid_ir.specs.declared.program.MidFn.{MidFn}
 use Rattle.mid_ir.specs.Activation.{first, with_block, Site, site_of}
@@ -43,7 +35,7 @@ use Rattle.mid_ir.specs.Run.{narrowed, run, run_all}
 use Rattle.mid_ir.specs.Whole as whole
 use Rattle.mid_ir.specs.Whole.{function_at, function_or, entry_numbers, need_of, given, params_of, bodies, mid_run}
 use Rattle.mid_ir.proofs.RunLaws.{run_Seq, run_all_append}
-use Rattle.lower_code.specs.Frames.{Home, Variable, Placed, Frame, frame_of, gives_in, return_type}
+use Rattle.lower_code.specs.Frames.{Home, Variable, Placed, Frame, frame_of, gives_in}
 use Rattle.lower_code.specs.Pieces.{kind_as}
 use Rattle.lower_code.specs.Stmts as code
 use Rattle.lower_code.specs.Programs.{bare, looks_empty, gives, all_homed, outermost, body_code, function_code, lowered}
@@ -187,8 +179,8 @@ module _ (p : Program) (good : IsProgram p) (enters : ℕ → Option ℕ) (fits 
       globals = refl;
       calls = calls_like;
       outside = λ target xs w q lq.
-        let u = emit (c.Called target xs) (mark_at target eight_zeros w) w in
-        first_phase (length (entry_functions p)) enters fits (λ e. mean.call p enters turns deep true load (top + block_bytes f) (slice_get (entry_functions p) e)) (λ e xs v. whole.call enters (lowered p).functions turns deep (top + block_bytes f) less 1 (slice_index entries e) xs v) (entries_alike deep calls (top + block_bytes f) load less le (omega (arith, from))) turns (length u.turns) u q lq;
+          let u = emit (c.Called target xs) (mark_at target eight_zeros w) w in
+          first_phase (length (entry_functions p)) enters fits (λ e. mean.call p enters turns deep true load (top + block_bytes f) (slice_get (entry_functions p) e)) (λ e xs v. whole.call enters (lowered p).functions turns deep (top + block_bytes f) less 1 (slice_index entries e) xs v) (entries_alike deep calls (top + block_bytes f) load less le (omega (arith, from))) turns (length u.turns) u q lq;
     }
 
     few : length f.params ≤ fr.free

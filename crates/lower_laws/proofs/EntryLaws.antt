@@ -1,7 +1,6 @@
 -- Runs of two programs that differ in their need of stack alone, where only so many entries are entered.
-use Rattle.std.proofs.Common.{◌≡◌, ℕ, zero, suc, ◌*◌, ◌<◌, ◌≤◌, Bool, true, false, cond, List, [], ◌∷◌, length, refl, sym, ap, ◌∙◌, subst, arith, Option, Some, None}
+use Rattle.std.proofs.Common.{◌≡◌, ℕ, zero, suc, ◌*◌, ◌<◌, ◌≤◌, Bool, true, false, cond, List, [], ◌∷◌, length, refl, subst, arith, Option, Some, None}
 use Rattle.std.specs.Prelude.{take, ltb, eqb}
-use Rattle.cm_base.specs.declared.stop.Stop.{Stop}
 use Rattle.ns_types.specs.declared.goes.Goes.{Goes}
 use Rattle.ns_types.specs.declared.goes.Goes.TheVariants as goes
 use Rattle.ns_types.specs.declared.event.CEvent.TheVariants as c
@@ -9,7 +8,7 @@ use Rattle.ns_types.specs.Turns.{Turn}
 use Rattle.ns_types.specs.declared.turn.Start.{Start}
 use Rattle.ns_types.specs.State.{Memory}
 use Rattle.ns_types.specs.Platform.{aligned, is_nonsecure, is_secure}
-use Rattle.ns_types.specs.Boundary.{acted, goes_of, goes_or, goes_outside, function_return, in_four, eight_zeros, kept_of, reset_address}
+use Rattle.ns_types.specs.Boundary.{acted, goes_of, goes_or, function_return, in_four, eight_zeros, kept_of, reset_address}
 use Rattle.ns_types.specs.CRun.{World, Outcome, mark_at, emit, counted, chain, phase, turned, run_of, fresh, c_run}
 use Rattle.ns_types.specs.Alike.{low, Alike, AlikePhases, AlikeRuns}
 use Rattle.ns_types.proofs.AlikeLaws.{alike_gave, alike_over, alike_stop, alike_then, alike_take, alike_or, alike_cond, alike_top, alike_run}

@@ -1,5 +1,5 @@
 -- What expressions cost.
-use Rattle.std.proofs.Common.{◌≡◌, ℕ, zero, suc, ◌+◌, ◌*◌, ◌≤◌, max, Bool, true, false, cond, List, [], ◌∷◌, ◌++◌, length, map, sum, refl, sym, ap, ◌∙◌, subst, arith, Option, Some, None, slice_get}
+use Rattle.std.proofs.Common.{◌≡◌, ℕ, ◌+◌, ◌*◌, ◌≤◌, Bool, true, false, cond, List, [], ◌∷◌, ◌++◌, length, map, sum, sym, subst, arith, Option, Some, None, slice_get}
 use Rattle.std.specs.Prelude.{leb}
 use Rattle.std.proofs.lemmas.List.Sums.{sum_by-cons}
 use Rattle.c_types.specs.declared.ctype.CType.{CType}
@@ -7,21 +7,18 @@ use Rattle.c_tree.specs.Depth as depths
 use Rattle.c_tree.specs.Depth.{depth, kind_depth, held}
 use Rattle.c_tree.specs.Nodes as counts
 use Rattle.c_tree.specs.Nodes.{nodes, kind_nodes}
-use Rattle.c_tree.specs.declared.expr.BinOp.{BinOp}
-use Rattle.c_tree.specs.declared.expr.BinOp.TheVariants as bin
 use Rattle.c_tree.specs.declared.expr.Expr.{Expr, roll-Expr}
 use Rattle.c_tree.specs.declared.expr.ExprKind.{ExprKind, roll-ExprKind}
 use Rattle.c_tree.specs.declared.expr.ExprKind.TheOpen as k
 use Rattle.c_tree.specs.declared.expr.ExprKind.TheOpen.{ExprKind-F, Expr-F}
 use Rattle.c_tree.specs.declared.expr.ExprKind.TheFolds.{map-ExprKind, map-Expr, fold-roll-ExprKind, fold-roll-Expr, ind-Expr}
 use Rattle.c_const.specs.Operate.{is_signed}
-use Rattle.mid_ir.specs.declared.stmt.MidStmt.{MidStmt}
 use Rattle.mid_ir.specs.declared.stmt.MidStmt.TheVariants as mid
 use Rattle.mid_ir.specs.declared.stmt.SetOp.TheVariants as op
 use Rattle.mid_ir.specs.Cost.{cost, all_cost}
 use Rattle.mid_ir.proofs.CostLaws.{cost_Const, cost_Home, cost_Call, cost_NsCall, cost_Range, cost_Caller, all_cost_append}
 use Rattle.lower_code.specs.Frames.{Home, Variable, Placed, Frame}
-use Rattle.lower_code.specs.Pieces.{kind_of, narrow, convert, load, store, operation, operation_one, truth, plus, moved_by, apart, cleared, is_even, choose, places}
+use Rattle.lower_code.specs.Pieces.{kind_of, convert, load, store, operation_one, truth, plus, moved_by, apart, cleared, is_even, choose, places}
 use Rattle.lower_code.specs.Exprs as code
 use Rattle.lower_code.specs.Exprs.{Codes, Base, InBlock, Fixed, Place, Held, Based, Computed, place_at, Change, Coded, Operand, coded, kind_coded, changed, change_at, step_held, step_at, new_value}
 use Rattle.lower_laws.proofs.PieceCosts.{copy_cost, narrow_cost, load_cost, store_cost, base_cost, operation_cost, one_cost, truth_cost, plus_cost, moved_cost, apart_cost, cleared_cost, even_cost, choose_cost, places_many, changed_cost, change_cost, held_cost, step_cost}

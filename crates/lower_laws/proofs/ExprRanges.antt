@@ -1,5 +1,5 @@
 -- The numbers in the code of expressions are in range.
-use Rattle.std.proofs.Common.{◌≡◌, ℕ, zero, suc, ◌+◌, ◌<◌, ◌≤◌, ◌&&◌, max, Bool, true, false, cond, List, [], ◌∷◌, ◌++◌, length, map, refl, sym, ap, ◌∙◌, subst, arith, Option, Some, None, slice_get}
+use Rattle.std.proofs.Common.{◌≡◌, ℕ, suc, ◌+◌, ◌<◌, ◌≤◌, ◌&&◌, max, Bool, true, false, cond, List, [], ◌∷◌, ◌++◌, length, map, refl, sym, ap, ◌∙◌, subst, arith, Option, Some, None, slice_get}
 use Rattle.std.specs.Prelude.{leb, nat_le}
 use Rattle.c_types.specs.declared.ctype.CType.{CType}
 use Rattle.c_types.specs.Kind.{arithmetic}
@@ -7,20 +7,18 @@ use Rattle.c_tree.specs.Depth as depths
 use Rattle.c_tree.specs.Depth.{depth, kind_depth, held}
 use Rattle.c_tree.specs.Numbers as numbers
 use Rattle.c_tree.specs.Numbers.{expr_in_range, all_true}
-use Rattle.c_tree.specs.declared.expr.BinOp.{BinOp}
 use Rattle.c_tree.specs.declared.expr.Expr.{Expr, roll-Expr}
 use Rattle.c_tree.specs.declared.expr.ExprKind.{ExprKind, roll-ExprKind}
 use Rattle.c_tree.specs.declared.expr.ExprKind.TheOpen as k
 use Rattle.c_tree.specs.declared.expr.ExprKind.TheOpen.{ExprKind-F, Expr-F}
 use Rattle.c_tree.specs.declared.expr.ExprKind.TheFolds.{map-ExprKind, map-Expr, fold-ExprKind, fold-roll-ExprKind, fold-roll-Expr, ind-Expr}
 use Rattle.c_const.specs.Operate.{is_signed}
-use Rattle.mid_ir.specs.declared.stmt.MidStmt.{MidStmt}
 use Rattle.mid_ir.specs.declared.stmt.MidStmt.TheVariants as mid
 use Rattle.mid_ir.specs.declared.stmt.SetOp.TheVariants as op
-use Rattle.mid_ir.specs.Numbers.{Around, is_var, are_vars, is_kind, in_range}
+use Rattle.mid_ir.specs.Numbers.{Around, is_var, are_vars, is_kind}
 use Rattle.mid_ir.proofs.RangeLaws.{all_in_range, range_Call, range_NsCall, range_Range, range_Caller}
 use Rattle.lower_code.specs.Frames.{Home, Variable, Placed, Frame}
-use Rattle.lower_code.specs.Pieces.{kind_of, convert, load, store, operation, operation_one, truth, plus, moved_by, apart, cleared, is_even, choose, places}
+use Rattle.lower_code.specs.Pieces.{kind_of, convert, load, store, operation_one, truth, plus, moved_by, apart, cleared, is_even, choose, places}
 use Rattle.lower_code.specs.Exprs as code
 use Rattle.lower_code.specs.Exprs.{Codes, Base, InBlock, Fixed, Place, Held, Based, Computed, place_at, Change, Coded, Operand, coded, kind_coded, changed, change_at, step_held, step_at, new_value}
 use Rattle.lower_laws.proofs.Exprs.{both_left, both_right}

@@ -1,9 +1,7 @@
 -- Every expression.
-use Rattle.std.proofs.Common.{◌≡◌, ℕ, zero, suc, ◌+◌, ◌<◌, ◌≤◌, ◌&&◌, Bool, true, false, List, [], ◌∷◌, ◌++◌, length, map, refl, sym, ap, ◌∙◌, subst, arith, Option, Some, None, slice_get, slice_index, slice_index_or, nat_lt}
-use Rattle.std.specs.List.{list_all}
+use Rattle.std.proofs.Common.{◌≡◌, ℕ, ◌+◌, ◌<◌, ◌&&◌, Bool, true, false, List, [], ◌∷◌, ◌++◌, length, map, refl, sym, ap, ◌∙◌, subst, arith, Some, slice_get, slice_index, slice_index_or}
 use Rattle.std.proofs.lemmas.Option.{slice_get-get_or}
 use Rattle.ns_types.specs.Operators.{truth}
-use Rattle.ns_types.specs.CRun.{World}
 use Rattle.c_types.specs.declared.ctype.CType.{CType}
 use Rattle.c_tree.specs.Numbers as numbers
 use Rattle.c_tree.specs.Numbers.{expr_in_range, all_true}
@@ -11,7 +9,7 @@ use Rattle.c_tree.specs.declared.expr.Expr.{Expr, roll-Expr}
 use Rattle.c_tree.specs.declared.expr.ExprKind.{ExprKind, roll-ExprKind}
 use Rattle.c_tree.specs.declared.expr.ExprKind.TheOpen as k
 use Rattle.c_tree.specs.declared.expr.ExprKind.TheOpen.{ExprKind-F, Expr-F}
-use Rattle.c_tree.specs.declared.expr.ExprKind.TheFolds.{map-ExprKind, map-Expr, fold-ExprKind, fold-Expr, fold-roll-ExprKind, fold-roll-Expr, ind-Expr}
+use Rattle.c_tree.specs.declared.expr.ExprKind.TheFolds.{map-ExprKind, map-Expr, fold-ExprKind, fold-roll-ExprKind, fold-roll-Expr, ind-Expr}
 use Rattle.c_const.specs.Operate.{is_signed}
 use Rattle.c_mean.specs.Parts.{Has, Part}
 use Rattle.c_mean.specs.Values.{Spot, At, spot_in}
@@ -21,7 +19,7 @@ use Rattle.mid_ir.specs.Activation.{Site}
 use Rattle.lower_code.specs.Frames.{Home, Variable, Placed, Frame}
 use Rattle.lower_code.specs.Exprs as code
 use Rattle.lower_code.specs.Exprs.{Codes, Place, Based, Fixed, place_at, Coded, Operand, coded, kind_coded}
-use Rattle.lower_laws.specs.Likeness.{IsHome, Like}
+use Rattle.lower_laws.specs.Likeness.{Like}
 use Rattle.lower_laws.proofs.Relate.{IsFrame}
 use Rattle.lower_laws.proofs.Places.{Does, Stands, const_does, address_does, read_does, member_stands}
 use Rattle.lower_laws.proofs.Writes.{assigned_does, assigned_op_does}

@@ -1,8 +1,7 @@
 -- How a statement of the middle form ends where a statement of the tree does.
-use Rattle.std.proofs.Common.{◌≡◌, ℕ, zero, suc, ◌+◌, ◌≤◌, Bool, true, false, List, [], ◌∷◌, length, map, refl, sym, ap, ◌∙◌, subst, arith, Option, Some, None}
-use Rattle.ns_types.specs.declared.event.End.{End}
+use Rattle.std.proofs.Common.{◌≡◌, ℕ, zero, suc, ◌+◌, ◌≤◌, Bool, List, refl, sym, ap, ◌∙◌, subst, arith, Option, Some, None}
 use Rattle.ns_types.specs.declared.event.End.TheVariants as end
-use Rattle.ns_types.specs.CRun.{World, Gave, Over}
+use Rattle.ns_types.specs.CRun.{World, Gave}
 use Rattle.ns_types.specs.Alike.{low, Alike}
 use Rattle.c_mean.specs.declared.flow.Flow.{Flow}
 use Rattle.c_mean.specs.declared.flow.Flow.TheVariants as flow
@@ -16,7 +15,7 @@ use Rattle.mid_ir.specs.Whole as whole
 use Rattle.lower_code.specs.Frames.{Frame}
 use Rattle.lower_code.specs.Stmts.{Ways, farther, in_loop, in_first}
 use Rattle.lower_code.specs.Programs.{outermost}
-use Rattle.lower_laws.proofs.Relate.{Agrees, Kept, Halts, halts, Runs, Value, then_value}
+use Rattle.lower_laws.proofs.Relate.{Agrees, Halts, halts, Runs, Value}
 
 -- it goes this way, and the locals agree
 pub record At (fr : Frame) (way : Vars → World → Out) (l : List ℕ) (w : World) (o : Out) : Type 0 where

@@ -1,15 +1,13 @@
 -- The homes of parameters and locals, and the block.
-use Rattle.std.proofs.Common.{◌≡◌, ℕ, zero, suc, ◌+◌, ◌-◌, ◌%◌, ◌<◌, ◌≤◌, ◌⊎◌, Bool, true, false, cond, max, List, [], ◌∷◌, ◌++◌, length, map, fold, refl, sym, ap, ◌∙◌, subst, inl, inr, ⊎_elim, arith, Option, Some, None, slice_get, slice_index, length-append}
+use Rattle.std.proofs.Common.{◌≡◌, ℕ, zero, suc, ◌+◌, ◌-◌, ◌%◌, ◌<◌, ◌≤◌, ◌⊎◌, Bool, true, false, cond, max, List, [], ◌∷◌, ◌++◌, length, fold, refl, ap, ◌∙◌, inl, inr, ⊎_elim, arith, Option, Some, None, slice_get, length-append}
 use Rattle.std.specs.Option.{unwrap_or}
-use Rattle.std.proofs.lemmas.Option.{slice_get_within}
 use Rattle.c_types.specs.Sizes.{align_of}
-use Rattle.c_tree.specs.Globals.{round_up}
 use Rattle.c_tree.specs.Slots.{bytes_of}
 use Rattle.c_tree.specs.Placed.{is_placed, stmt_taken}
 use Rattle.c_tree.specs.declared.program.TFunction.{TFunction}
 use Rattle.c_tree.specs.declared.program.TLocal.{TLocal}
 use Rattle.c_mean.specs.Homes.{Block, begins, with_local, block_of, block_bytes}
-use Rattle.lower_code.specs.Frames.{Home, Variable, Placed, Frame, home_or, homes_from, free_from, frame_of}
+use Rattle.lower_code.specs.Frames.{Home, Variable, Placed, home_or, homes_from, free_from, frame_of}
 use Rattle.lower_laws.proofs.Relate.{IsFrame}
 
 -- ---- homes by where locals stand

@@ -1,5 +1,5 @@
 -- The numbers in functions are in range: each variable is below the slots and four more.
-use Rattle.std.proofs.Common.{◌≡◌, ℕ, zero, suc, ◌+◌, ◌<◌, ◌≤◌, Bool, true, false, cond, List, [], ◌∷◌, ◌++◌, length, map, fold, refl, sym, ap, ◌∙◌, subst, arith, append_assoc, length-append, Option, Some, None, slice_get}
+use Rattle.std.proofs.Common.{◌≡◌, ℕ, suc, ◌+◌, Bool, true, false, cond, List, [], ◌∷◌, ◌++◌, length, map, fold, refl, sym, ap, ◌∙◌, arith, append_assoc, length-append, Option, Some, None, slice_get}
 use Rattle.std.specs.Prelude.{option_map, ◌==◌}
 use Rattle.std.proofs.lemmas.List.{append-nil}
 use Rattle.std.proofs.lemmas.Option.{slice_get-map}
@@ -11,7 +11,6 @@ use Rattle.c_tree.specs.Slots.{slots, bytes_of, unplaced_from}
 use Rattle.c_tree.specs.declared.program.TFunction.{TFunction}
 use Rattle.c_tree.specs.declared.program.TLocal.{TLocal}
 use Rattle.c_mean.specs.Homes.{Block, begins, with_local, block_of, block_bytes, homes}
-use Rattle.mid_ir.specs.declared.program.MidFn.{MidFn}
 use Rattle.mid_ir.specs.Numbers as mid_numbers
 use Rattle.mid_ir.specs.Numbers.{Around, function_in_range}
 use Rattle.mid_ir.proofs.RangeLaws.{range_Seq}

@@ -1,5 +1,5 @@
 -- The parts of a switch, in blocks that their labels end.
-use Rattle.std.proofs.Common.{◌≡◌, ℕ, zero, suc, ◌+◌, ◌≤◌, Bool, true, false, cond, List, [], ◌∷◌, ◌++◌, map, drop, refl, sym, ap, ◌∙◌, subst, arith, Option, Some, None}
+use Rattle.std.proofs.Common.{◌≡◌, ℕ, suc, ◌+◌, ◌≤◌, Bool, true, false, cond, List, [], ◌∷◌, ◌++◌, map, refl, sym, ap, ◌∙◌, subst, arith, Option, Some, None}
 use Rattle.std.specs.Prelude.{eqb}
 use Rattle.std.specs.Option.{unwrap_or}
 use Rattle.ns_types.specs.CRun.{World}
@@ -10,17 +10,17 @@ use Rattle.c_mean.specs.declared.flow.Flow.TheVariants as flow
 use Rattle.c_mean.specs.Parts as tree
 use Rattle.c_mean.specs.Parts.{Has, Ends, Part, then_with, and_next, in_order, after_switch}
 use Rattle.c_mean.specs.Exprs.{Around}
-use Rattle.c_mean.specs.Stmts.{Arm, Does, goes_on, skipped, arms_from, part_step}
+use Rattle.c_mean.specs.Stmts.{Arm, Does, skipped, arms_from, part_step}
 use Rattle.mid_ir.specs.declared.stmt.MidStmt.{MidStmt}
 use Rattle.mid_ir.specs.declared.stmt.MidStmt.TheVariants as mid
 use Rattle.mid_ir.specs.Activation.{Vars, Site}
-use Rattle.mid_ir.specs.Run.{Out, Next, Broke, Gives, Stops, then_do, caught, run, run_all}
+use Rattle.mid_ir.specs.Run.{Out, Next, Broke, then_do, caught, run, run_all}
 use Rattle.mid_ir.proofs.RunLaws.{run_Block, run_Seq, run_all_append}
 use Rattle.lower_code.specs.Frames.{Frame}
 use Rattle.lower_code.specs.Stmts.{Ways, Codes, Piece, Case, Default, Code, farther, in_switch, labels, nest, default_label, dispatch, block}
 use Rattle.lower_laws.proofs.Relate.{Agrees, IsFrame}
-use Rattle.lower_laws.proofs.Flows.{At, leading, Returned, Acts, Onward, at, goes_next, then_acts, returned_caught}
-use Rattle.lower_laws.proofs.Switches.{first, rest_of, or_else, skip_is, case_label, last_is, Sent, sent}
+use Rattle.lower_laws.proofs.Flows.{leading, Returned, Acts, Onward, goes_next, then_acts, returned_caught}
+use Rattle.lower_laws.proofs.Switches.{first, rest_of, or_else, skip_is, case_label, last_is, sent}
 
 -- a block of statements
 pub block_is : (r : Site) (body : List MidStmt) (vs : Vars) (w : World) → run r (block body) vs w ≡ caught (run_all r body vs w)

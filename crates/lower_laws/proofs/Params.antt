@@ -1,5 +1,5 @@
 -- The beginning of a function: its parameters.
-use Rattle.std.proofs.Common.{◌≡◌, ℕ, zero, suc, ◌+◌, ◌<◌, ◌≤◌, ◌⊎◌, Bool, true, false, cond, List, [], ◌∷◌, ◌++◌, length, map, take, get_or, refl, sym, ap, ◌∙◌, subst, inl, inr, ⊎_elim, arith, length-append, Option, Some, None, slice_get, slice_index, slice_index_or}
+use Rattle.std.proofs.Common.{◌≡◌, ℕ, zero, suc, ◌+◌, ◌<◌, ◌≤◌, ◌⊎◌, Bool, true, false, cond, List, [], ◌∷◌, ◌++◌, length, map, take, refl, sym, ap, ◌∙◌, subst, inl, inr, arith, length-append, Some, slice_get, slice_index, slice_index_or}
 use Rattle.std.proofs.lemmas.Option.{slice_get-get_or}
 use Rattle.ns_types.specs.CRun.{World}
 use Rattle.ns_types.specs.Alike.{low}
@@ -13,17 +13,17 @@ use Rattle.c_mean.specs.declared.flow.Flow.TheVariants as flow
 use Rattle.c_mean.specs.Homes.{block_of}
 use Rattle.c_mean.specs.Parts as tree
 use Rattle.c_mean.specs.Parts.{Has, Ends, Part, then_with}
-use Rattle.c_mean.specs.Values.{Spot, Unplaced, At, spot_in, converted, write_spot}
+use Rattle.c_mean.specs.Values.{Spot, At, spot_in, write_spot}
 use Rattle.c_mean.specs.Exprs.{Around}
 use Rattle.c_mean.specs.Calls as mean
 use Rattle.c_mean.specs.Calls.{homed, parameters, first_values}
 use Rattle.mid_ir.specs.declared.stmt.MidStmt.{MidStmt}
 use Rattle.mid_ir.specs.declared.stmt.MidStmt.TheVariants as mid
 use Rattle.mid_ir.specs.Activation.{Vars, put, first, Site}
-use Rattle.mid_ir.specs.Run.{Out, Next, narrowed, then_do, run, run_all}
+use Rattle.mid_ir.specs.Run.{Out, then_do, run_all}
 use Rattle.mid_ir.specs.Whole.{all_narrowed}
-use Rattle.mid_ir.proofs.RunLaws.{run_Home, run_all_append}
-use Rattle.lower_code.specs.Frames.{Home, Variable, Placed, Frame, frame_of, home_or, homes_from}
+use Rattle.mid_ir.proofs.RunLaws.{run_Home}
+use Rattle.lower_code.specs.Frames.{Home, Variable, Placed, Frame, frame_of}
 use Rattle.lower_code.specs.Pieces as piece
 use Rattle.lower_code.specs.Pieces.{kind_of}
 use Rattle.lower_code.specs.Programs as code

@@ -1,7 +1,6 @@
 -- What pieces of code cost.
-use Rattle.std.proofs.Common.{◌≡◌, ℕ, zero, suc, ◌+◌, ◌*◌, ◌≤◌, Bool, true, false, cond, List, [], ◌∷◌, ◌++◌, length, refl, sym, ap, ◌∙◌, subst, arith, Option, Some, None}
+use Rattle.std.proofs.Common.{◌≡◌, ℕ, zero, suc, ◌+◌, ◌≤◌, Bool, true, false, cond, List, [], ◌∷◌, ◌++◌, length, refl, ap, ◌∙◌, arith, Some}
 use Rattle.std.specs.Prelude.{eqb}
-use Rattle.c_types.specs.declared.arith.Arith.{Arith}
 use Rattle.c_types.specs.declared.ctype.CType.{CType}
 use Rattle.c_types.specs.declared.ctype.Shape.TheOpen as shape
 use Rattle.c_types.specs.Kind.{Look, look, referenced, referenced_by, arithmetic_of}
@@ -14,10 +13,9 @@ use Rattle.c_mean.specs.Exprs.{done_signed}
 use Rattle.c_mean.specs.Values.{value_size}
 use Rattle.mid_ir.specs.declared.stmt.MidStmt.{MidStmt}
 use Rattle.mid_ir.specs.declared.stmt.MidStmt.TheVariants as mid
-use Rattle.mid_ir.specs.declared.stmt.SetOp.{SetOp}
 use Rattle.mid_ir.specs.declared.stmt.SetOp.TheVariants as op
 use Rattle.mid_ir.specs.Cost.{cost, all_cost}
-use Rattle.mid_ir.proofs.CostLaws.{cost_Seq, cost_Const, cost_Set, cost_Home, cost_Load, cost_Store, cost_If, cost_Loop, cost_Block, cost_Break, all_cost_append}
+use Rattle.mid_ir.proofs.CostLaws.{cost_Seq, cost_Const, cost_Set, cost_Home, cost_Load, cost_Store, cost_If, cost_Loop, cost_Block, all_cost_append}
 use Rattle.lower_code.specs.Pieces.{kind_as, kind_of, narrow, convert, has_sign, load, store, operation, operation_one, truth, plus, scaled, counted, moved_by, apart, cleared, is_even, choose, places}
 use Rattle.lower_code.specs.Exprs.{Base, InBlock, Fixed, base, Change, changed, change_at, step_held, step_at}
 use Rattle.lower_code.specs.Stmts.{block, loop}

@@ -1,35 +1,30 @@
 -- Places: what is read there, and what is written.
-use Rattle.std.proofs.Common.{◌≡◌, ℕ, zero, suc, ◌+◌, ◌%◌, ◌<◌, ◌≤◌, ◌⊎◌, ◌≢◌, Bool, true, false, cond, List, [], ◌∷◌, ◌++◌, length, map, refl, sym, ap, ◌∙◌, subst, inl, inr, arith, Result, Ok, Err, Option, Some, None, slice_get, slice_index, slice_set}
+use Rattle.std.proofs.Common.{◌≡◌, ℕ, ◌+◌, ◌<◌, ◌≤◌, ◌≢◌, Bool, true, false, cond, List, [], ◌∷◌, ◌++◌, length, refl, sym, ap, ◌∙◌, subst, inl, arith, Some, slice_get, slice_index, slice_set}
 use Rattle.std.specs.Prelude.{eqb, leb}
 use Rattle.std.proofs.lemmas.List.{length-set, get_or-set_same, get_or-set_other}
 use Rattle.std.proofs.lemmas.Option.{slice_get_within}
-use Rattle.cm_base.specs.declared.stop.Stop.{Stop}
-use Rattle.ns_types.specs.Operators as ops
 use Rattle.ns_types.specs.Operators.{wrapped}
 use Rattle.ns_types.specs.CRun.{World}
 use Rattle.ns_types.specs.Alike.{low}
 use Rattle.c_types.specs.declared.ctype.CType.{CType}
-use Rattle.c_types.specs.Kind.{referenced}
-use Rattle.c_const.specs.Operate.{operate}
 use Rattle.c_mean.specs.Parts as tree
 use Rattle.c_mean.specs.Parts.{Has, Ends, Part, then_with, or_halt}
 use Rattle.c_mean.specs.Values.{Spot, Unplaced, At, moved, converted, read_spot, write_spot}
 use Rattle.c_mean.specs.Values as values
-use Rattle.c_mean.specs.Exprs as mean
 use Rattle.c_mean.specs.Exprs.{constant}
 use Rattle.mid_ir.specs.declared.stmt.MidStmt.{MidStmt}
 use Rattle.mid_ir.specs.declared.stmt.MidStmt.TheVariants as mid
 use Rattle.mid_ir.specs.declared.stmt.SetOp.TheVariants as op
 use Rattle.mid_ir.specs.Activation.{Vars, put, Site}
 use Rattle.mid_ir.specs.Run.{Out, Next, then_do, or_stop, run, run_all}
-use Rattle.mid_ir.proofs.RunLaws.{run_Const, run_Set, run_Home, run_all_append}
-use Rattle.lower_code.specs.Frames.{Home, Variable, Placed, Frame}
+use Rattle.mid_ir.proofs.RunLaws.{run_Const, run_Home, run_all_append}
+use Rattle.lower_code.specs.Frames.{Variable, Frame}
 use Rattle.lower_code.specs.Pieces as piece
 use Rattle.lower_code.specs.Exprs as code
 use Rattle.lower_code.specs.Exprs.{Codes, Base, InBlock, Fixed, Place, Held, Based, Computed, Change}
-use Rattle.lower_laws.proofs.Relate.{put_same, put_other, Agrees, IsFrame, Kept, kept_self, kept_on, kept_less, agrees_on, Runs, Value, left, stops, weaker, then_runs, then_value}
-use Rattle.lower_laws.proofs.Straight.{Sets, next, sets_done, sets_const, sets_more, sets_last, plus_sets, counted_sets, convert_sets, operation_is, sets_runs}
-use Rattle.lower_laws.proofs.Accesses.{Put, result_puts, load_puts, Same, store_same}
+use Rattle.lower_laws.proofs.Relate.{put_same, put_other, Agrees, IsFrame, Kept, kept_self, kept_on, agrees_on, Runs, Value, left, weaker, then_runs, then_value}
+use Rattle.lower_laws.proofs.Straight.{next, sets_last, plus_sets, sets_runs}
+use Rattle.lower_laws.proofs.Accesses.{Put, load_puts}
 
 -- the same part, with nothing behind it
 pub then_has : {A : Type 0} (a : tree.Out A) → then_with a (λ x l w. Has x l w) ≡ a
@@ -114,9 +109,11 @@ module _ (fr : Frame) (good : IsFrame fr) (r : Site) (room : r.block + fr.bytes 
   }
 
   pub const_does : (x : ℕ) → Does (λ l w. Has x l w) (λ t. mid.Const t x ∷ [])
-  const_does x = record { by = λ t nt l vs w p le g.
-      subst (λ o. Runs (Value fr t vs) (Has x l w) o) (sym (one_is (mid.Const t x) vs (low p w) ∙ run_Const r t x vs (low p w)))
-      (left (Value fr t vs) x l (put vs t x) w p le (put_value t x l vs vs nt g (kept_self fr.free t vs))) }
+  const_does x = record {
+    by = λ t nt l vs w p le g.
+        subst (λ o. Runs (Value fr t vs) (Has x l w) o) (sym (one_is (mid.Const t x) vs (low p w) ∙ run_Const r t x vs (low p w)))
+        (left (Value fr t vs) x l (put vs t x) w p le (put_value t x l vs vs nt g (kept_self fr.free t vs)));
+  }
 
   -- what is put into a variable is a value
   pub puts_value : (t p : ℕ) (l : List ℕ) (vs old : Vars) (w : World) (a : tree.Out ℕ) (o : Out) → fr.free ≤ t → Agrees fr l old → Kept fr.free t vs old → Runs (Put t l old) a o → Runs (Value fr t vs) a o
@@ -175,11 +172,15 @@ module _ (fr : Frame) (good : IsFrame fr) (r : Site) (room : r.block + fr.bytes 
 
   pub address_does : (p : Part Spot) (z : Place) → Stands p z → Does (λ l w. then_with (p l w) (λ s. constant (values.address s))) (code.address z)
   address_does p (Held v) s = record { by = λ t nt l vs w k le g. at_held (Value fr t vs) p v s _ l w _ ((const_does 0).by t nt l vs w k le g) }
-  address_does p (Based b) s = record { by = λ t nt l vs w k le g.
-      at_based (Value fr t vs) p b s _ l w _
-      (subst (λ o. Runs (Value fr t vs) (Has (base_at b) l w) o) (sym (after_base b t [] vs (low k w))) (left (Value fr t vs) (base_at b) l (put vs t (base_at b)) w k le (put_value t (base_at b) l vs vs nt g (kept_self fr.free t vs)))) }
-  address_does p (Computed c) s = record { by = λ t nt l vs w k le g.
-      at_computed (Value fr t vs) p c s _ l w _ (subst (λ z. Runs (Value fr t vs) z (run_all r (c t) vs (low k w))) (sym (then_has (s.at l w))) (s.does.by t nt l vs w k le g)) }
+  address_does p (Based b) s = record {
+    by = λ t nt l vs w k le g.
+        at_based (Value fr t vs) p b s _ l w _
+        (subst (λ o. Runs (Value fr t vs) (Has (base_at b) l w) o) (sym (after_base b t [] vs (low k w))) (left (Value fr t vs) (base_at b) l (put vs t (base_at b)) w k le (put_value t (base_at b) l vs vs nt g (kept_self fr.free t vs))));
+  }
+  address_does p (Computed c) s = record {
+    by = λ t nt l vs w k le g.
+        at_computed (Value fr t vs) p c s _ l w _ (subst (λ z. Runs (Value fr t vs) z (run_all r (c t) vs (low k w))) (sym (then_has (s.at l w))) (s.does.by t nt l vs w k le g));
+  }
 
   -- ---- what stands there
 
@@ -197,27 +198,35 @@ module _ (fr : Frame) (good : IsFrame fr) (r : Site) (room : r.block + fr.bytes 
 
   pub read_does : (c : CType) (p : Part Spot) (z : Place) → Stands p z → Does (λ l w. then_with (p l w) (read_spot c)) (code.read c z)
   read_does c p (Held v) s = record { by = λ t nt l vs w k le g. at_held (Value fr t vs) p v s (read_spot c) l w _ (copy_value t v s.local k l vs w s.home nt le g) }
-  read_does c p (Based b) s = record { by = λ t nt l vs w k le g.
-      at_based (Value fr t vs) p b s (read_spot c) l w _
-      (subst (λ o. Runs (Value fr t vs) (read_spot c (At (base_at b)) l w) o) (sym (after_base b t (piece.load c t t ∷ []) vs (low k w)))
-      (let v = put_value t (base_at b) l vs vs nt g (kept_self fr.free t vs) in
-      load_value c t t (base_at b) k l vs (put vs t (base_at b)) w nt le v.locals v.kept v.holds)) }
-  read_does c p (Computed at) s = record { by = λ t nt l vs w k le g.
-      at_computed (Value fr t vs) p at s (read_spot c) l w _
-      (more t vs (Value fr t vs) l w k s.at (at t) (piece.load c t t ∷ []) _ (s.does.by t nt l vs w k le g)
-      (λ l new w p le g kp. load_value c t t (new t) p l vs new w nt le g kp refl)) }
+  read_does c p (Based b) s = record {
+    by = λ t nt l vs w k le g.
+        at_based (Value fr t vs) p b s (read_spot c) l w _
+        (subst (λ o. Runs (Value fr t vs) (read_spot c (At (base_at b)) l w) o) (sym (after_base b t (piece.load c t t ∷ []) vs (low k w)))
+        (let v = put_value t (base_at b) l vs vs nt g (kept_self fr.free t vs) in
+        load_value c t t (base_at b) k l vs (put vs t (base_at b)) w nt le v.locals v.kept v.holds));
+  }
+  read_does c p (Computed at) s = record {
+    by = λ t nt l vs w k le g.
+        at_computed (Value fr t vs) p at s (read_spot c) l w _
+        (more t vs (Value fr t vs) l w k s.at (at t) (piece.load c t t ∷ []) _ (s.does.by t nt l vs w k le g)
+        (λ l new w p le g kp. load_value c t t (new t) p l vs new w nt le g kp refl));
+  }
 
   -- ---- so many bytes on
 
   -- an address in t, and a number more
   pub plus_does : (a : Part ℕ) (c : Codes) (offset : ℕ) → Does a c → Does (λ l w. then_with (a l w) (λ x. constant (wrapped (x + offset)))) (λ t. c t ++ piece.plus offset t)
-  plus_does a c offset d = record { by = λ t nt l vs w p le g.
-      more t vs (Value fr t vs) l w p a (c t) (piece.plus offset t) _ (d.by t nt l vs w p le g)
-      (λ l new w p le g k. sets_runs fr good t (t + 1) (wrapped (new t + offset)) p l vs new w _ nt (omega arith) le g k (plus_sets r offset t new (low p w))) }
+  plus_does a c offset d = record {
+    by = λ t nt l vs w p le g.
+        more t vs (Value fr t vs) l w p a (c t) (piece.plus offset t) _ (d.by t nt l vs w p le g)
+        (λ l new w p le g k. sets_runs fr good t (t + 1) (wrapped (new t + offset)) p l vs new w _ nt (omega arith) le g k (plus_sets r offset t new (low p w)));
+  }
 
   home_does : (from : ℕ) → Does (λ l w. Has (r.block + from) l w) (λ t. mid.Home t from ∷ [])
-  home_does from = record { by = λ t nt l vs w k le g.
-      subst (λ o. Runs (Value fr t vs) (Has (r.block + from) l w) o) (sym (after_base (InBlock from) t [] vs (low k w))) (left (Value fr t vs) (r.block + from) l (put vs t (r.block + from)) w k le (put_value t (r.block + from) l vs vs nt g (kept_self fr.free t vs))) }
+  home_does from = record {
+    by = λ t nt l vs w k le g.
+        subst (λ o. Runs (Value fr t vs) (Has (r.block + from) l w) o) (sym (after_base (InBlock from) t [] vs (low k w))) (left (Value fr t vs) (r.block + from) l (put vs t (r.block + from)) w k le (put_value t (r.block + from) l vs vs nt g (kept_self fr.free t vs)));
+  }
 
   pub member_stands : (p : Part Spot) (z : Place) (offset : ℕ) → Stands p z → Stands (λ l w. then_with (p l w) (λ s m u. Has (moved s offset) m u)) (code.member fr.bytes z offset)
   member_stands p (Held v) offset s = record { local = s.local; home = s.home; is = λ l w. ap (λ z. then_with z (λ s m u. Has (moved s offset) m u)) (s.is l w) }

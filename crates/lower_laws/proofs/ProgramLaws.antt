@@ -1,17 +1,17 @@
 -- What is in a program: its functions are in range, in order, with their units, and its contents aren't longer than its globals.
-use Rattle.std.proofs.Common.{◌≡◌, ℕ, zero, suc, ◌+◌, ◌-◌, ◌%◌, ◌<◌, ◌≤◌, max, Bool, true, false, cond, not, List, [], ◌∷◌, ◌++◌, length, map, fold, filter, replicate, refl, sym, ap, ◌∙◌, subst, arith, length-append, All, option_map, Option, Some, None, slice_get, slice_index_or}
+use Rattle.std.proofs.Common.{◌≡◌, ℕ, ◌+◌, ◌-◌, ◌%◌, ◌≤◌, max, Bool, true, false, cond, not, List, [], ◌∷◌, ◌++◌, length, map, fold, filter, replicate, refl, sym, ap, ◌∙◌, subst, arith, length-append, All, option_map, Option, Some, None, slice_get, slice_index_or}
 use Rattle.std.specs.Option.{unwrap_or}
 use Rattle.std.proofs.lemmas.Option.{slice_get-map, slice_get-get_or, get_or_from_slice_get, slice_get_within}
 use Rattle.std.proofs.lemmas.List.{length-replicate}
 use Rattle.std.proofs.lemmas.List.Elements.{All-get_or, All-head, All-tail}
 use Rattle.c_types.specs.Sizes.{align_of}
 use Rattle.c_tree.specs.Conditions.{Program, IsProgram, IsFunction, IsGlobal}
-use Rattle.c_tree.specs.Globals.{end_after, round_up, stands, globals_bytes}
+use Rattle.c_tree.specs.Globals.{end_after, stands, globals_bytes}
 use Rattle.c_tree.specs.Slots.{bytes_of}
 use Rattle.c_tree.specs.Numbers.{names_of_program}
 use Rattle.c_tree.specs.declared.program.TFunction.{TFunction}
 use Rattle.c_tree.specs.declared.program.TGlobal.{TGlobal}
-use Rattle.c_mean.specs.Homes.{homes, contents, with_contents, begins}
+use Rattle.c_mean.specs.Homes.{homes, with_contents, begins}
 use Rattle.mid_ir.specs.declared.program.MidFn.{MidFn}
 use Rattle.mid_ir.specs.Numbers.{function_in_range}
 use Rattle.lower_code.specs.Programs.{function_code, lowered}

@@ -1,16 +1,15 @@
 -- How a statement of the middle form ends where a part of the tree does.
-use Rattle.std.proofs.Common.{◌≡◌, ℕ, zero, suc, ◌+◌, ◌<◌, ◌≤◌, ◌⊎◌, ◌≢◌, Bool, true, false, cond, List, [], ◌∷◌, length, map, refl, sym, ap, ◌∙◌, subst, inl, inr, arith, Result, Ok, Err, Option, Some, None, slice_get, slice_index, slice_set}
-use Rattle.std.specs.Prelude.{eqb}
+use Rattle.std.proofs.Common.{◌≡◌, ℕ, zero, suc, ◌<◌, ◌≤◌, ◌⊎◌, List, length, refl, sym, ◌∙◌, subst, arith, Some, slice_get, slice_index}
 use Rattle.cm_base.specs.declared.stop.Stop.{Stop}
 use Rattle.ns_types.specs.declared.event.End.{End}
-use Rattle.ns_types.specs.CRun.{World, Outcome, Gave, Over}
-use Rattle.ns_types.specs.Alike.{low, Alike}
+use Rattle.ns_types.specs.CRun.{World}
+use Rattle.ns_types.specs.Alike.{low}
 use Rattle.c_mean.specs.Parts as tree
 use Rattle.c_mean.specs.Parts.{Has, Ends, Part, then_with, or_halt, chosen, called}
 use Rattle.mid_ir.specs.Activation.{Vars, put, where_set}
 use Rattle.mid_ir.specs.Run.{Out, Next, Broke, Gives, Stops, then_do}
 use Rattle.mid_ir.specs.Run as mid
-use Rattle.lower_code.specs.Frames.{Home, Variable, Placed, Frame}
+use Rattle.lower_code.specs.Frames.{Variable, Frame}
 
 pub put_same : (vs : Vars) (v x : ℕ) → put vs v x v ≡ x
 put_same vs v x = grind (arith)

@@ -1,18 +1,17 @@
 -- Steps by a number: `++` and `--`.
-use Rattle.std.proofs.Common.{◌≡◌, ℕ, zero, suc, ◌+◌, ◌<◌, ◌≤◌, ◌⊎◌, ◌≢◌, Bool, true, false, cond, List, [], ◌∷◌, ◌++◌, length, map, refl, sym, ap, ◌∙◌, subst, inl, inr, arith, Result, Ok, Err, Option, Some, None, slice_get, slice_index, slice_set}
+use Rattle.std.proofs.Common.{◌≡◌, ℕ, ◌+◌, ◌<◌, ◌≤◌, ◌⊎◌, ◌≢◌, Bool, true, false, cond, List, [], ◌∷◌, ◌++◌, refl, sym, ap, ◌∙◌, subst, inl, inr, arith, Ok, Some, slice_get, slice_index, slice_set}
 use Rattle.std.specs.Prelude.{ltb}
 use Rattle.ns_types.specs.Operators as ops
 use Rattle.ns_types.specs.CRun.{World}
 use Rattle.ns_types.specs.Alike.{low}
 use Rattle.c_types.specs.declared.ctype.CType.{CType}
 use Rattle.c_mean.specs.Parts.{Has, Part, then_with}
-use Rattle.c_mean.specs.Values.{Spot, Unplaced, At, converted, read_spot, write_spot}
+use Rattle.c_mean.specs.Values.{Spot, At, converted, read_spot, write_spot}
 use Rattle.c_mean.specs.Exprs.{constant}
-use Rattle.mid_ir.specs.declared.stmt.MidStmt.{MidStmt}
 use Rattle.mid_ir.specs.declared.stmt.MidStmt.TheVariants as mid
 use Rattle.mid_ir.specs.declared.stmt.SetOp.TheVariants as op
 use Rattle.mid_ir.specs.Activation.{Vars, put, Site}
-use Rattle.mid_ir.specs.Run.{Out, Next, then_do, run, run_all}
+use Rattle.mid_ir.specs.Run.{Next, run_all}
 use Rattle.mid_ir.proofs.RunLaws.{run_Set}
 use Rattle.lower_code.specs.Frames.{Variable, Frame}
 use Rattle.lower_code.specs.Pieces as piece
@@ -128,20 +127,24 @@ module _ (fr : Frame) (good : IsFrame fr) (r : Site) (room : r.block + fr.bytes 
   pub stepped_does : (c : CType) (by : ℕ) (old : Bool) (p : Part Spot) (z : Place) → Stands fr good r room p z → D (step_meant c by old p) (code.stepped c by old z)
   stepped_does c by true p (Held v) s = record { by = λ t nt l vs w q le g. at_held fr good r room (Value fr t vs) p v s _ l w _ (step_held_true c by v t s.local q l vs w s.home nt le g) }
   stepped_does c by false p (Held v) s = record { by = λ t nt l vs w q le g. at_held fr good r room (Value fr t vs) p v s _ l w _ (step_held_false c by v t s.local q l vs w s.home nt le g) }
-  stepped_does c by old p (Based b) s = record { by = λ t nt l vs w q le g.
-      let at = base_at fr good r room b in
-      at_based fr good r room (Value fr t vs) p b s _ l w _
-      (subst (λ o. Runs (Value fr t vs) (then_with (read_spot c (At at) l w) (λ x n v. then_with (write_spot c (At at) (converted c (ops.add x by)) n v) (λ y. constant (cond old x y)))) o)
-      (sym (after_base fr good r room b (t + 1) (code.step_at c by (code.new_value old t) t) vs (low q w)))
-      (at_address c by t at q old l vs (put vs (t + 1) at) w nt le
-      (record { many = g.many; at = λ i v h. let lt = good.below i v h in put_other vs (t + 1) at v (inl (omega arith)) ∙ g.at i v h })
-      (record { at = λ i a b. put_other vs (t + 1) at i (inl (omega arith)) }) (put_same vs (t + 1) at))) }
-  stepped_does c by old p (Computed at) s = record { by = λ t nt l vs w q le g.
-      at_computed fr good r room (Value fr t vs) p at s _ l w _
-      (more fr good r room t vs (Value fr t vs) l w q s.at (at t) (mid.Set (t + 1) op.Copy t t ∷ code.step_at c by (code.new_value old t) t) _ (s.does.by t nt l vs w q le g)
-      (λ l new w q le g kp.
-      subst (λ o. Runs (Value fr t vs) (then_with (read_spot c (At (new t)) l w) (λ x n v. then_with (write_spot c (At (new t)) (converted c (ops.add x by)) n v) (λ y. constant (cond old x y)))) o)
-      (sym (next r (mid.Set (t + 1) op.Copy t t) (code.step_at c by (code.new_value old t) t) new (put new (t + 1) (new t)) (low q w) (low q w) (run_Set r (t + 1) op.Copy t t new (low q w))))
-      (at_address c by t (new t) q old l vs (put new (t + 1) (new t)) w nt le
-      (record { many = g.many; at = λ i v h. let lt = good.below i v h in put_other new (t + 1) (new t) v (inl (omega arith)) ∙ g.at i v h })
-      (record { at = λ i a b. put_other new (t + 1) (new t) i (inl (omega arith)) ∙ kp.at i a b }) (put_same new (t + 1) (new t))))) }
+  stepped_does c by old p (Based b) s = record {
+    by = λ t nt l vs w q le g.
+        let at = base_at fr good r room b in
+        at_based fr good r room (Value fr t vs) p b s _ l w _
+        (subst (λ o. Runs (Value fr t vs) (then_with (read_spot c (At at) l w) (λ x n v. then_with (write_spot c (At at) (converted c (ops.add x by)) n v) (λ y. constant (cond old x y)))) o)
+        (sym (after_base fr good r room b (t + 1) (code.step_at c by (code.new_value old t) t) vs (low q w)))
+        (at_address c by t at q old l vs (put vs (t + 1) at) w nt le
+        (record { many = g.many; at = λ i v h. let lt = good.below i v h in put_other vs (t + 1) at v (inl (omega arith)) ∙ g.at i v h })
+        (record { at = λ i a b. put_other vs (t + 1) at i (inl (omega arith)) }) (put_same vs (t + 1) at)));
+  }
+  stepped_does c by old p (Computed at) s = record {
+    by = λ t nt l vs w q le g.
+        at_computed fr good r room (Value fr t vs) p at s _ l w _
+        (more fr good r room t vs (Value fr t vs) l w q s.at (at t) (mid.Set (t + 1) op.Copy t t ∷ code.step_at c by (code.new_value old t) t) _ (s.does.by t nt l vs w q le g)
+        (λ l new w q le g kp.
+        subst (λ o. Runs (Value fr t vs) (then_with (read_spot c (At (new t)) l w) (λ x n v. then_with (write_spot c (At (new t)) (converted c (ops.add x by)) n v) (λ y. constant (cond old x y)))) o)
+        (sym (next r (mid.Set (t + 1) op.Copy t t) (code.step_at c by (code.new_value old t) t) new (put new (t + 1) (new t)) (low q w) (low q w) (run_Set r (t + 1) op.Copy t t new (low q w))))
+        (at_address c by t (new t) q old l vs (put new (t + 1) (new t)) w nt le
+        (record { many = g.many; at = λ i v h. let lt = good.below i v h in put_other new (t + 1) (new t) v (inl (omega arith)) ∙ g.at i v h })
+        (record { at = λ i a b. put_other new (t + 1) (new t) i (inl (omega arith)) ∙ kp.at i a b }) (put_same new (t + 1) (new t)))));
+  }

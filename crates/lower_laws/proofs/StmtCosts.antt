@@ -1,5 +1,5 @@
 -- What statements cost, and functions.
-use Rattle.std.proofs.Common.{◌≡◌, ℕ, zero, suc, ◌+◌, ◌*◌, ◌≤◌, max, Bool, true, false, cond, List, [], ◌∷◌, ◌++◌, length, map, sum, refl, sym, ap, ◌∙◌, subst, arith, Option, Some, None, slice_get}
+use Rattle.std.proofs.Common.{◌≡◌, ℕ, suc, ◌+◌, ◌*◌, ◌≤◌, max, Bool, true, false, cond, List, [], ◌∷◌, ◌++◌, length, map, sum, sym, subst, arith, Option, Some, None, slice_get}
 use Rattle.std.specs.Prelude.{leb}
 use Rattle.std.proofs.lemmas.List.Sums.{sum_by-cons}
 use Rattle.c_types.specs.declared.ctype.CType.{CType}
@@ -8,7 +8,7 @@ use Rattle.c_tree.specs.Depth.{depth, depth_or, greatest, held, item_depth, item
 use Rattle.c_tree.specs.Nodes as counts
 use Rattle.c_tree.specs.Nodes.{nodes, nodes_or, item_nodes, items_nodes, stmt_nodes, part_nodes, or_zero, function_nodes}
 use Rattle.c_tree.specs.Placed.{is_placed, stmt_taken}
-use Rattle.c_tree.specs.Slots.{slots, unplaced_from}
+use Rattle.c_tree.specs.Slots.{unplaced_from}
 use Rattle.c_tree.specs.declared.expr.Expr.{Expr}
 use Rattle.c_tree.specs.declared.program.TFunction.{TFunction}
 use Rattle.c_tree.specs.declared.program.TLocal.{TLocal}

@@ -1,19 +1,11 @@
 -- The numbers in the code of statements and of functions are in range.
-use Rattle.std.proofs.Common.{◌≡◌, ℕ, zero, suc, ◌+◌, ◌<◌, ◌≤◌, ◌&&◌, max, Bool, true, false, cond, List, [], ◌∷◌, ◌++◌, length, map, fold, refl, sym, ap, ◌∙◌, subst, arith, append_assoc, length-append, All, Option, Some, None, slice_get}
-use Rattle.std.specs.Prelude.{nat_lt, option_map}
-use Rattle.std.proofs.lemmas.List.{append-nil}
-use Rattle.std.proofs.lemmas.Option.{slice_get-map}
-use Rattle.c_types.specs.declared.ctype.CType.{CType}
-use Rattle.c_tree.specs.Conditions.{Program, IsFunction}
+use Rattle.std.proofs.Common.{◌≡◌, ℕ, suc, ◌+◌, ◌<◌, ◌≤◌, ◌&&◌, Bool, true, List, [], ◌∷◌, ◌++◌, length, map, refl, sym, ◌∙◌, subst, arith, Option, Some, None, slice_get}
+use Rattle.std.specs.Prelude.{nat_lt}
 use Rattle.c_tree.specs.Depth as depths
 use Rattle.c_tree.specs.Depth.{depth, depth_or, greatest, held, item_depth, items_depth, stmt_depth, part_depth}
-use Rattle.c_tree.specs.Nodes.{or_zero}
 use Rattle.c_tree.specs.Numbers as numbers
 use Rattle.c_tree.specs.Numbers.{expr_in_range, stmt_in_range, in_range_or, items_in_range, all_true, names_of_program, has_params}
-use Rattle.c_tree.specs.Placed.{is_placed, stmt_taken}
-use Rattle.c_tree.specs.Slots.{slots, bytes_of, unplaced_from}
 use Rattle.c_tree.specs.declared.expr.Expr.{Expr}
-use Rattle.c_tree.specs.declared.program.TFunction.{TFunction}
 use Rattle.c_tree.specs.declared.program.TLocal.{TLocal}
 use Rattle.c_tree.specs.declared.stmt.Item.{Item}
 use Rattle.c_tree.specs.declared.stmt.Stmt.{Stmt, roll-Stmt}
@@ -21,23 +13,19 @@ use Rattle.c_tree.specs.declared.stmt.Part.{Part as SwitchPart, roll-Part}
 use Rattle.c_tree.specs.declared.stmt.Part.TheOpen as k
 use Rattle.c_tree.specs.declared.stmt.Part.TheOpen.{Stmt-F, Part-F}
 use Rattle.c_tree.specs.declared.stmt.Part.TheFolds.{map-Stmt, map-Part, fold-Part, fold-roll-Stmt, fold-roll-Part, ind-Stmt}
-use Rattle.c_mean.specs.Homes.{Block, begins, with_local, block_of, block_bytes, homes}
 use Rattle.mid_ir.specs.declared.stmt.MidStmt.{MidStmt}
 use Rattle.mid_ir.specs.declared.stmt.MidStmt.TheVariants as mid
 use Rattle.mid_ir.specs.declared.stmt.SetOp.TheVariants as op
-use Rattle.mid_ir.specs.declared.program.MidFn.{MidFn}
-use Rattle.mid_ir.specs.Numbers as mid_numbers
-use Rattle.mid_ir.specs.Numbers.{Around, in_range, function_in_range}
-use Rattle.mid_ir.proofs.RangeLaws.{all_in_range, range_Seq}
-use Rattle.lower_code.specs.Frames.{Home, Variable, Placed, Frame, homes_from, free_from, frame_of}
-use Rattle.lower_code.specs.Pieces.{kind_as, kind_of, narrow, store, choose}
+use Rattle.mid_ir.specs.Numbers.{Around}
+use Rattle.mid_ir.proofs.RangeLaws.{all_in_range}
+use Rattle.lower_code.specs.Frames.{Home, Variable, Placed, Frame}
+use Rattle.lower_code.specs.Pieces.{kind_as, narrow, store, choose}
 use Rattle.lower_code.specs.Exprs as expr
 use Rattle.lower_code.specs.Exprs.{Place, place_at, member}
 use Rattle.lower_code.specs.Stmts as code
 use Rattle.lower_code.specs.Stmts.{Ways, Codes, Piece, Case, Default, Code, farther, in_loop, in_first, in_switch, coded, piece, items_code, leave, return_code, code_or, all_codes, or_nothing, block, loop, while_so, while_or, labels, nest, jump, jumps, default_label, dispatch}
-use Rattle.lower_code.specs.Programs.{homed, all_homed, body_code, outermost, function_code, lowered}
+use Rattle.lower_code.specs.Programs.{homed, all_homed}
 use Rattle.lower_laws.proofs.Exprs.{both_left, both_right}
-use Rattle.lower_laws.proofs.FrameLaws.{homes_many, home_from, From, offset_within, is_frame, params_free, offsets_length}
 use Rattle.lower_laws.proofs.PieceRanges.{first_in, one_in, append_in, const_in, set_in, home_in, store_in, choose_in, block_in, loop_in, break_in, return_in, narrow_in}
 use Rattle.lower_laws.proofs.ExprRanges as values
 use Rattle.lower_laws.proofs.ExprRanges.{HomeIn, Stands}

@@ -1,5 +1,5 @@
 -- Every statement.
-use Rattle.std.proofs.Common.{◌≡◌, ℕ, zero, suc, ◌+◌, ◌<◌, ◌≤◌, ◌&&◌, ◌||◌, Bool, true, false, cond, List, [], ◌∷◌, ◌++◌, length, map, refl, sym, ap, ◌∙◌, subst, arith, Option, Some, None, slice_get, nat_lt, slice_index_or}
+use Rattle.std.proofs.Common.{◌≡◌, ℕ, ◌+◌, ◌<◌, ◌≤◌, ◌&&◌, ◌||◌, Bool, true, false, List, [], ◌∷◌, ◌++◌, length, map, refl, sym, ap, ◌∙◌, subst, arith, Option, Some, None, slice_get, nat_lt}
 use Rattle.ns_types.specs.CRun.{World}
 use Rattle.ns_types.specs.Alike.{low}
 use Rattle.c_tree.specs.Numbers as numbers
@@ -33,15 +33,15 @@ use Rattle.lower_code.specs.Exprs as expr
 use Rattle.lower_code.specs.Exprs.{Place, place_at, member}
 use Rattle.lower_code.specs.Stmts as code
 use Rattle.lower_code.specs.Stmts.{Ways, Codes, Piece, farther, in_loop, in_first, coded, piece, items_code, leave, return_code, code_or, all_codes, block, loop, while_so, while_or}
-use Rattle.lower_code.specs.Programs.{bare, bare_step, bare_part, bare_or, all_bare}
+use Rattle.lower_code.specs.Programs.{bare, bare_step, bare_part, all_bare}
 use Rattle.lower_laws.specs.Likeness.{Like}
-use Rattle.lower_laws.proofs.Relate.{put_same, Agrees, IsFrame, agrees_on, Runs, Value}
+use Rattle.lower_laws.proofs.Relate.{put_same, Agrees, IsFrame}
 use Rattle.lower_laws.proofs.Straight.{next, narrow_sets}
 use Rattle.lower_laws.proofs.Places.{Does as DoesValue, Stands, then_then, member_stands}
 use Rattle.lower_laws.proofs.Writes.{sets_then, assigned_does}
 use Rattle.lower_laws.proofs.Operands.{choose_is}
 use Rattle.lower_laws.proofs.Exprs.{both_left, both_right, value_does, local_stands}
-use Rattle.lower_laws.proofs.Flows.{At, Given, Leads, leading, turning, Returned, Acts, Onward, at, goes_next, goes_break, goes_continue, value_acts, value_alone, chosen_acts, then_acts, body_acts, after_acts, loop_acts, first_acts}
+use Rattle.lower_laws.proofs.Flows.{Leads, leading, turning, Returned, Acts, Onward, goes_break, goes_continue, value_acts, value_alone, chosen_acts, then_acts, body_acts, after_acts, loop_acts, first_acts}
 use Rattle.lower_laws.proofs.Switches.{last_is}
 use Rattle.lower_laws.proofs.Nests.{AllParts, none, case, default, stmt, block_is, parts_act}
 
@@ -102,7 +102,9 @@ module _ (around : numbers.Around) (fr : Frame) (good : IsFrame fr) (s : Around)
       let kind = kind_as fr.gives in
       let one = narrow_sets r kind fr.free (fr.free + 1) new (low p w) in
       record {
-        value = one.new fr.free; peak = p; less = le;
+        value = one.new fr.free;
+        peak = p;
+        less = le;
         is = sets_then r fr.free (fr.free + 1) _ (narrow kind fr.free) (mid.Return fr.free ∷ []) new (low p w) one ∙ last_is fr good r (mid.Return fr.free) one.new (low p w) ∙ run_Return r fr.free one.new (low p w);
         holds = ap (given gives) one.holds ∙ given_is h (new fr.free);
       }
@@ -116,7 +118,9 @@ module _ (around : numbers.Around) (fr : Frame) (good : IsFrame fr) (s : Around)
   leaves_bare None l vs w p le g =
       let one = put vs fr.free 0 in
       record {
-        value = 0; peak = p; less = le;
+        value = 0;
+        peak = p;
+        less = le;
         is = next r (mid.Const fr.free 0) (mid.Return fr.free ∷ []) vs one (low p w) (low p w) (run_Const r fr.free 0 vs (low p w)) ∙ last_is fr good r (mid.Return fr.free) one (low p w) ∙ run_Return r fr.free one (low p w) ∙ ap (λ (x : ℕ). Gives x (low p w)) (put_same vs fr.free 0);
         holds = given_zero gives;
       }

@@ -1,9 +1,8 @@
 -- Code that only sets variables: a variable t, and others above it.
-use Rattle.std.proofs.Common.{◌≡◌, ℕ, zero, suc, ◌+◌, ◌-◌, ◌*◌, ◌%◌, ◌/◌, ◌<◌, ◌≤◌, ◌⊎◌, Bool, true, false, cond, not, List, [], ◌∷◌, ◌++◌, length, map, refl, sym, ap, ◌∙◌, subst, inl, inr, arith, Result, Ok, Err, Option, Some, None}
+use Rattle.std.proofs.Common.{◌≡◌, ℕ, zero, suc, ◌+◌, ◌*◌, ◌%◌, ◌/◌, ◌<◌, ◌≤◌, ◌⊎◌, Bool, true, false, cond, not, List, [], ◌∷◌, ◌++◌, refl, sym, ap, ◌∙◌, subst, inl, inr, arith, Ok, Option, Some, None}
 use Rattle.std.specs.Prelude.{eqb, ltb, bit_and, bit_or, bit_xor}
 use Rattle.std.proofs.lemmas.Nat.{and_mask, and_or_self}
 use Rattle.std.specs.Int.Bits.{or_add_and, xor_add_and}
-use Rattle.cm_base.specs.declared.stop.Stop.{Stop}
 use Rattle.ns_types.specs.Operators as ops
 use Rattle.ns_types.specs.Operators.{truth}
 use Rattle.ns_types.specs.Platform.{aligned}
@@ -32,7 +31,7 @@ use Rattle.mid_ir.specs.Run.{Out, Next, then_do, applied, narrowed, or_stop, run
 use Rattle.mid_ir.proofs.RunLaws.{run_Const, run_Set}
 use Rattle.lower_code.specs.Frames.{Frame}
 use Rattle.lower_code.specs.Pieces as code
-use Rattle.lower_laws.proofs.Relate.{put_same, put_other, Agrees, IsFrame, Kept, kept_on, agrees_on, Runs, left, Value}
+use Rattle.lower_laws.proofs.Relate.{put_same, put_other, Agrees, IsFrame, Kept, agrees_on, Runs, left, Value}
 
 -- The code goes on with x in t, and changes no other variable below s.
 pub record Sets (t s x : ℕ) (vs : Vars) (w : World) (o : Out) : Type 0 where

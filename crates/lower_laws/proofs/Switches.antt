@@ -1,30 +1,23 @@
 -- Switches.
-use Rattle.std.proofs.Common.{◌≡◌, ℕ, zero, suc, ◌+◌, ◌<◌, ◌≤◌, Bool, true, false, cond, not, List, [], ◌∷◌, ◌++◌, length, map, drop, refl, sym, ap, ◌∙◌, subst, inl, inr, arith, Option, Some, None, nat_lt}
+use Rattle.std.proofs.Common.{◌≡◌, ℕ, suc, ◌+◌, Bool, true, false, cond, not, List, [], ◌∷◌, ◌++◌, length, drop, refl, ap, ◌∙◌, inl, arith, Option, Some, None, nat_lt}
 use Rattle.std.specs.Prelude.{eqb, ltb, is_some}
-use Rattle.std.specs.List.{position, position_or_len}
+use Rattle.std.specs.List.{position_or_len}
 use Rattle.std.specs.Option.{unwrap_or}
 use Rattle.ns_types.specs.Operators.{truth, equal}
 use Rattle.ns_types.specs.CRun.{World}
-use Rattle.ns_types.specs.Alike.{low}
-use Rattle.c_mean.specs.declared.flow.Flow.{Flow}
-use Rattle.c_mean.specs.declared.flow.Flow.TheVariants as flow
-use Rattle.c_mean.specs.Parts as tree
-use Rattle.c_mean.specs.Parts.{Has, Ends, Part, then_with, and_next, in_order, after_switch}
-use Rattle.c_mean.specs.Exprs.{Around}
-use Rattle.c_mean.specs.Stmts.{Arm, Does, goes_on, no_case, skipped, arms_from}
+use Rattle.c_mean.specs.Stmts.{Arm, skipped}
 use Rattle.mid_ir.specs.declared.stmt.MidStmt.{MidStmt}
 use Rattle.mid_ir.specs.declared.stmt.MidStmt.TheVariants as mid
 use Rattle.mid_ir.specs.declared.stmt.SetOp.TheVariants as op
 use Rattle.mid_ir.specs.Activation.{Vars, put, where_set, Site}
-use Rattle.mid_ir.specs.Run.{Out, Next, Broke, Gives, Stops, then_do, caught, run, run_all}
-use Rattle.mid_ir.proofs.RunLaws.{run_Const, run_Set, run_Block, run_Seq, run_Break, run_all_append}
+use Rattle.mid_ir.specs.Run.{Out, Next, Broke, Gives, Stops, then_do, run, run_all}
+use Rattle.mid_ir.proofs.RunLaws.{run_Const, run_Set, run_Break, run_all_append}
 use Rattle.lower_code.specs.Frames.{Frame}
 use Rattle.lower_code.specs.Pieces.{choose}
-use Rattle.lower_code.specs.Stmts.{Ways, Codes, Piece, Case, Default, Code, farther, in_switch, labels, after, nest, jump, jumps, default_label, dispatch, block}
-use Rattle.lower_laws.proofs.Relate.{put_same, put_other, Agrees, IsFrame, Halts, agrees_on}
+use Rattle.lower_code.specs.Stmts.{Piece, Case, Default, Code, jump, jumps, default_label, dispatch}
+use Rattle.lower_laws.proofs.Relate.{put_same, put_other, Agrees, IsFrame, agrees_on}
 use Rattle.lower_laws.proofs.Straight.{next}
 use Rattle.lower_laws.proofs.Operands.{choose_is}
-use Rattle.lower_laws.proofs.Flows.{At, Given, leading, Returned, Acts, Onward, at, goes_next, then_acts, returned_caught}
 
 -- ---- where control enters
 

@@ -1,6 +1,5 @@
 -- What is written to a place.
-use Rattle.std.proofs.Common.{◌≡◌, ℕ, zero, suc, ◌+◌, ◌<◌, ◌≤◌, ◌⊎◌, ◌≢◌, Bool, true, false, cond, List, [], ◌∷◌, ◌++◌, length, map, refl, sym, ap, ◌∙◌, subst, inl, inr, arith, Result, Ok, Err, Option, Some, None, slice_get, slice_index, slice_set}
-use Rattle.ns_types.specs.Operators as ops
+use Rattle.std.proofs.Common.{◌≡◌, ℕ, ◌+◌, ◌<◌, ◌≤◌, ◌⊎◌, ◌≢◌, List, [], ◌∷◌, ◌++◌, refl, sym, ap, ◌∙◌, subst, inl, inr, arith, Some, slice_get, slice_set}
 use Rattle.ns_types.specs.CRun.{World}
 use Rattle.ns_types.specs.Alike.{low}
 use Rattle.c_types.specs.declared.ctype.CType.{CType}
@@ -21,8 +20,8 @@ use Rattle.lower_code.specs.Frames.{Variable, Frame}
 use Rattle.lower_code.specs.Pieces as piece
 use Rattle.lower_code.specs.Exprs as code
 use Rattle.lower_code.specs.Exprs.{Codes, Place, Held, Based, Computed, Change}
-use Rattle.lower_laws.proofs.Relate.{put_same, put_other, Agrees, IsFrame, Kept, kept_self, kept_on, agrees_on, Runs, Value, left, weaker, then_runs}
-use Rattle.lower_laws.proofs.Straight.{Sets, next, sets_const, sets_more, sets_last, counted_sets, convert_sets, operation_is, sets_runs}
+use Rattle.lower_laws.proofs.Relate.{put_same, put_other, Agrees, IsFrame, Kept, agrees_on, Runs, Value, left, then_runs}
+use Rattle.lower_laws.proofs.Straight.{Sets, sets_last, counted_sets, convert_sets, operation_is, sets_runs}
 use Rattle.lower_laws.proofs.Accesses.{Put, result_puts, load_puts, Same, store_same}
 use Rattle.lower_laws.proofs.Places.{agrees_set, and_runs, Does, more, two, one_is, Stands, base_at, at_held, at_based, at_computed, after_base}
 
@@ -69,28 +68,34 @@ module _ (fr : Frame) (good : IsFrame fr) (r : Site) (room : r.block + fr.bytes 
   -- ---- assignments
 
   pub assigned_does : (c : CType) (p : Part Spot) (z : Place) (a : Part ℕ) (d : Codes) → Stands fr good r room p z → D a d → D (λ l w. then_with (p l w) (λ s m u. then_with (a m u) (λ x n v. write_spot c s x n v))) (code.assigned c z d)
-  assigned_does c p (Held v) a d s k = record { by = λ t nt l vs w q le g.
-      at_held fr good r room (Value fr t vs) p v s _ l w _
-      (more fr good r room t vs (Value fr t vs) l w q a (d t) (mid.Set v op.Copy t t ∷ []) _ (k.by t nt l vs w q le g)
-      (λ l new w q le g kp.
-      let lt = good.below s.local v s.home in
-      subst (λ o. Runs (Value fr t vs) (Has (new t) (slice_set l s.local (new t)) w) o) (sym (one_is fr good r room (mid.Set v op.Copy t t) new (low q w) ∙ run_Set r v op.Copy t t new (low q w)))
-      (set_local t v s.local (new t) (new t) q l vs new (put new v (new t)) w s.home nt le g kp (put_same new v (new t)) (put_other new v (new t) t (inr (omega arith))) (λ u lu ne. put_not new v (new t) u ne)))) }
-  assigned_does c p (Based b) a d s k = record { by = λ t nt l vs w q le g.
-      at_based fr good r room (Value fr t vs) p b s _ l w _
-      (more fr good r room t vs (Value fr t vs) l w q a (d t) (code.base b (t + 1) ∷ piece.store c (t + 1) t ∷ []) _ (k.by t nt l vs w q le g)
-      (λ l new w q le g kp.
-      let at = base_at fr good r room b in
-      let last = put new (t + 1) at in
-      subst (λ o. Runs (Value fr t vs) (write_spot c (At at) (new t) l w) o) (sym (after_base fr good r room b (t + 1) (piece.store c (t + 1) t ∷ []) new (low q w)))
-      (same_then (Value fr t vs) (new t) l last _ _ (run_all r []) (store_same r c (t + 1) t at (new t) q l last w le (put_same new (t + 1) at) (put_other new (t + 1) at t (inl (omega arith))))
-      (λ w q le. unchanged t (new t) q l vs new last w nt le g kp (put_other new (t + 1) at t (inl (omega arith))) (λ u lt. put_other new (t + 1) at u (inl (omega arith))))))) }
-  assigned_does c p (Computed at) a d s k = record { by = λ t nt l vs w q le g.
-      at_computed fr good r room (Value fr t vs) p at s _ l w _
-      (two fr good r room t vs (Value fr t vs) l w q s.at a at d (piece.store c t (t + 1) ∷ mid.Set t op.Copy (t + 1) (t + 1) ∷ []) (λ x y. write_spot c (At x) y) nt le g s.does k
-      (λ l new w q le g kp.
-      same_then (Value fr t vs) (new (t + 1)) l new _ _ (run_all r (mid.Set t op.Copy (t + 1) (t + 1) ∷ [])) (store_same r c t (t + 1) (new t) (new (t + 1)) q l new w le refl refl)
-      (λ w q le. sets_runs fr good t (t + 1) (new (t + 1)) q l vs new w _ nt (omega arith) le g kp (sets_last r t (t + 1) (new (t + 1)) (t + 1) (t + 1) op.Copy new (low q w) refl)))) }
+  assigned_does c p (Held v) a d s k = record {
+    by = λ t nt l vs w q le g.
+        at_held fr good r room (Value fr t vs) p v s _ l w _
+        (more fr good r room t vs (Value fr t vs) l w q a (d t) (mid.Set v op.Copy t t ∷ []) _ (k.by t nt l vs w q le g)
+        (λ l new w q le g kp.
+        let lt = good.below s.local v s.home in
+        subst (λ o. Runs (Value fr t vs) (Has (new t) (slice_set l s.local (new t)) w) o) (sym (one_is fr good r room (mid.Set v op.Copy t t) new (low q w) ∙ run_Set r v op.Copy t t new (low q w)))
+        (set_local t v s.local (new t) (new t) q l vs new (put new v (new t)) w s.home nt le g kp (put_same new v (new t)) (put_other new v (new t) t (inr (omega arith))) (λ u lu ne. put_not new v (new t) u ne))));
+  }
+  assigned_does c p (Based b) a d s k = record {
+    by = λ t nt l vs w q le g.
+        at_based fr good r room (Value fr t vs) p b s _ l w _
+        (more fr good r room t vs (Value fr t vs) l w q a (d t) (code.base b (t + 1) ∷ piece.store c (t + 1) t ∷ []) _ (k.by t nt l vs w q le g)
+        (λ l new w q le g kp.
+        let at = base_at fr good r room b in
+        let last = put new (t + 1) at in
+        subst (λ o. Runs (Value fr t vs) (write_spot c (At at) (new t) l w) o) (sym (after_base fr good r room b (t + 1) (piece.store c (t + 1) t ∷ []) new (low q w)))
+        (same_then (Value fr t vs) (new t) l last _ _ (run_all r []) (store_same r c (t + 1) t at (new t) q l last w le (put_same new (t + 1) at) (put_other new (t + 1) at t (inl (omega arith))))
+        (λ w q le. unchanged t (new t) q l vs new last w nt le g kp (put_other new (t + 1) at t (inl (omega arith))) (λ u lt. put_other new (t + 1) at u (inl (omega arith)))))));
+  }
+  assigned_does c p (Computed at) a d s k = record {
+    by = λ t nt l vs w q le g.
+        at_computed fr good r room (Value fr t vs) p at s _ l w _
+        (two fr good r room t vs (Value fr t vs) l w q s.at a at d (piece.store c t (t + 1) ∷ mid.Set t op.Copy (t + 1) (t + 1) ∷ []) (λ x y. write_spot c (At x) y) nt le g s.does k
+        (λ l new w q le g kp.
+        same_then (Value fr t vs) (new (t + 1)) l new _ _ (run_all r (mid.Set t op.Copy (t + 1) (t + 1) ∷ [])) (store_same r c t (t + 1) (new t) (new (t + 1)) q l new w le refl refl)
+        (λ w q le. sets_runs fr good t (t + 1) (new (t + 1)) q l vs new w _ nt (omega arith) le g kp (sets_last r t (t + 1) (new (t + 1)) (t + 1) (t + 1) op.Copy new (low q w) refl))));
+  }
 
   -- ---- `op=`
 
@@ -137,37 +142,43 @@ module _ (fr : Frame) (good : IsFrame fr) (r : Site) (room : r.block + fr.bytes 
       then_with (or_halt (mean.changed c.op c.place c.operand x y) o q) (λ z e f. write_spot c.place s (converted c.place z) e f))))
 
   pub assigned_op_does : (c : Change) (p : Part Spot) (z : Place) (a : Part ℕ) (d : Codes) → Stands fr good r room p z → D a d → D (op_meant c p a) (code.assigned_op c z d)
-  assigned_op_does c p (Held v) a d s k = record { by = λ t nt l vs w q le g.
-      at_held fr good r room (Value fr t vs) p v s _ l w _
-      (more fr good r room t vs (Value fr t vs) l w q a (d t) (code.changed c v t (t + 1) (mid.Set v op.Copy t t ∷ [])) _ (k.by t nt l vs w q le g)
-      (λ l new w q le g kp.
-      let lt = good.below s.local v s.home in
-      subst (λ x. Runs (Value fr t vs) (then_with (or_halt (mean.changed c.op c.place c.operand x (new t)) l w) (λ z e f. write_spot c.place (Unplaced s.local) (converted c.place z) e f)) (run_all r (code.changed c v t (t + 1) (mid.Set v op.Copy t t ∷ [])) new (low q w))) (g.at s.local v s.home)
-      (changed_runs (Value fr t vs) c v t (t + 1) (mid.Set v op.Copy t t ∷ []) _ l new w q le (omega arith) (omega arith) (inl (omega arith))
-      (λ z last w q le f same.
-      let x = converted c.place z in
-      let end = put last v (last t) in
-      subst (λ o. Runs (Value fr t vs) (Has x (slice_set l s.local x) w) o) (sym (one_is fr good r room (mid.Set v op.Copy t t) last (low q w) ∙ run_Set r v op.Copy t t last (low q w)))
-      (set_local t v s.local x x q l vs new end w s.home nt le g kp (put_same last v (last t) ∙ f) (put_other last v (last t) t (inr (omega arith)) ∙ f) (λ u lu n. put_not last v (last t) u n ∙ same u (omega arith) (inl lu))))))) }
-  assigned_op_does c p (Based b) a d s k = record { by = λ t nt l vs w q le g.
-      at_based fr good r room (Value fr t vs) p b s _ l w _
-      (more fr good r room t vs (Value fr t vs) l w q a (d t) (code.base b (t + 1) ∷ code.change_at c (t + 1) t (t + 2) []) _ (k.by t nt l vs w q le g)
-      (λ l new w q le g kp.
-      let at = base_at fr good r room b in
-      let one = put new (t + 1) at in
-      let meant : ℕ → tree.Out ℕ = λ y. then_with (read_spot c.place (At at) l w) (λ x o u. then_with (or_halt (mean.changed c.op c.place c.operand x y) o u) (λ z e f. write_spot c.place (At at) (converted c.place z) e f)) in
-      subst (λ o. Runs (Value fr t vs) (meant (new t)) o) (sym (after_base fr good r room b (t + 1) (code.change_at c (t + 1) t (t + 2) []) new (low q w)))
-      (subst (λ y. Runs (Value fr t vs) (meant y) (run_all r (code.change_at c (t + 1) t (t + 2) []) one (low q w))) (put_other new (t + 1) at t (inl (omega arith)))
-      (change_runs (Value fr t vs) c (t + 1) t (t + 2) at [] l one w q le (omega arith) (omega arith) (inr (omega arith)) (put_same new (t + 1) at)
-      (λ y last w q le f same. unchanged t y q l vs new last w nt le g kp f (λ u lu. same u (omega arith) (inl lu) ∙ put_other new (t + 1) at u (inl (omega arith)))))))) }
-  assigned_op_does c p (Computed at) a d s k = record { by = λ t nt l vs w q le g.
-      at_computed fr good r room (Value fr t vs) p at s _ l w _
-      (two fr good r room t vs (Value fr t vs) l w q s.at a at d (code.change_at c t (t + 1) (t + 2) (mid.Set t op.Copy (t + 1) (t + 1) ∷ []))
-      (λ x y n v. then_with (read_spot c.place (At x) n v) (λ i o u. then_with (or_halt (mean.changed c.op c.place c.operand i y) o u) (λ z e f. write_spot c.place (At x) (converted c.place z) e f)))
-      nt le g s.does k
-      (λ l new w q le g kp.
-      change_runs (Value fr t vs) c t (t + 1) (t + 2) (new t) (mid.Set t op.Copy (t + 1) (t + 1) ∷ []) l new w q le (omega arith) (omega arith) (inl (omega arith)) refl
-      (λ y last w q le f same.
-      let end = put last t (last (t + 1)) in
-      subst (λ o. Runs (Value fr t vs) (Has y l w) o) (sym (one_is fr good r room (mid.Set t op.Copy (t + 1) (t + 1)) last (low q w) ∙ run_Set r t op.Copy (t + 1) (t + 1) last (low q w)))
-      (unchanged t y q l vs new end w nt le g kp (put_same last t (last (t + 1)) ∙ f) (λ u lu. put_other last t (last (t + 1)) u (inl lu) ∙ same u (omega arith) (inl (omega arith))))))) }
+  assigned_op_does c p (Held v) a d s k = record {
+    by = λ t nt l vs w q le g.
+        at_held fr good r room (Value fr t vs) p v s _ l w _
+        (more fr good r room t vs (Value fr t vs) l w q a (d t) (code.changed c v t (t + 1) (mid.Set v op.Copy t t ∷ [])) _ (k.by t nt l vs w q le g)
+        (λ l new w q le g kp.
+        let lt = good.below s.local v s.home in
+        subst (λ x. Runs (Value fr t vs) (then_with (or_halt (mean.changed c.op c.place c.operand x (new t)) l w) (λ z e f. write_spot c.place (Unplaced s.local) (converted c.place z) e f)) (run_all r (code.changed c v t (t + 1) (mid.Set v op.Copy t t ∷ [])) new (low q w))) (g.at s.local v s.home)
+        (changed_runs (Value fr t vs) c v t (t + 1) (mid.Set v op.Copy t t ∷ []) _ l new w q le (omega arith) (omega arith) (inl (omega arith))
+        (λ z last w q le f same.
+        let x = converted c.place z in
+        let end = put last v (last t) in
+        subst (λ o. Runs (Value fr t vs) (Has x (slice_set l s.local x) w) o) (sym (one_is fr good r room (mid.Set v op.Copy t t) last (low q w) ∙ run_Set r v op.Copy t t last (low q w)))
+        (set_local t v s.local x x q l vs new end w s.home nt le g kp (put_same last v (last t) ∙ f) (put_other last v (last t) t (inr (omega arith)) ∙ f) (λ u lu n. put_not last v (last t) u n ∙ same u (omega arith) (inl lu)))))));
+  }
+  assigned_op_does c p (Based b) a d s k = record {
+    by = λ t nt l vs w q le g.
+        at_based fr good r room (Value fr t vs) p b s _ l w _
+        (more fr good r room t vs (Value fr t vs) l w q a (d t) (code.base b (t + 1) ∷ code.change_at c (t + 1) t (t + 2) []) _ (k.by t nt l vs w q le g)
+        (λ l new w q le g kp.
+        let at = base_at fr good r room b in
+        let one = put new (t + 1) at in
+        let meant : ℕ → tree.Out ℕ = λ y. then_with (read_spot c.place (At at) l w) (λ x o u. then_with (or_halt (mean.changed c.op c.place c.operand x y) o u) (λ z e f. write_spot c.place (At at) (converted c.place z) e f)) in
+        subst (λ o. Runs (Value fr t vs) (meant (new t)) o) (sym (after_base fr good r room b (t + 1) (code.change_at c (t + 1) t (t + 2) []) new (low q w)))
+        (subst (λ y. Runs (Value fr t vs) (meant y) (run_all r (code.change_at c (t + 1) t (t + 2) []) one (low q w))) (put_other new (t + 1) at t (inl (omega arith)))
+        (change_runs (Value fr t vs) c (t + 1) t (t + 2) at [] l one w q le (omega arith) (omega arith) (inr (omega arith)) (put_same new (t + 1) at)
+        (λ y last w q le f same. unchanged t y q l vs new last w nt le g kp f (λ u lu. same u (omega arith) (inl lu) ∙ put_other new (t + 1) at u (inl (omega arith))))))));
+  }
+  assigned_op_does c p (Computed at) a d s k = record {
+    by = λ t nt l vs w q le g.
+        at_computed fr good r room (Value fr t vs) p at s _ l w _
+        (two fr good r room t vs (Value fr t vs) l w q s.at a at d (code.change_at c t (t + 1) (t + 2) (mid.Set t op.Copy (t + 1) (t + 1) ∷ []))
+        (λ x y n v. then_with (read_spot c.place (At x) n v) (λ i o u. then_with (or_halt (mean.changed c.op c.place c.operand i y) o u) (λ z e f. write_spot c.place (At x) (converted c.place z) e f)))
+        nt le g s.does k
+        (λ l new w q le g kp.
+        change_runs (Value fr t vs) c t (t + 1) (t + 2) (new t) (mid.Set t op.Copy (t + 1) (t + 1) ∷ []) l new w q le (omega arith) (omega arith) (inl (omega arith)) refl
+        (λ y last w q le f same.
+        let end = put last t (last (t + 1)) in
+        subst (λ o. Runs (Value fr t vs) (Has y l w) o) (sym (one_is fr good r room (mid.Set t op.Copy (t + 1) (t + 1)) last (low q w) ∙ run_Set r t op.Copy (t + 1) (t + 1) last (low q w)))
+        (unchanged t y q l vs new end w nt le g kp (put_same last t (last (t + 1)) ∙ f) (λ u lu. put_other last t (last (t + 1)) u (inl lu) ∙ same u (omega arith) (inl (omega arith)))))));
+  }

@@ -5,7 +5,7 @@ use Rattle.ns_types.specs.declared.event.Veneer.{Veneer}
 use Rattle.ns_types.specs.declared.turn.Start.{Start}
 use Rattle.ns_types.specs.Turns.{Turn}
 use Rattle.ns_types.specs.Alike.{AlikeRuns}
-use Rattle.c_tree.specs.Conditions.{Program, IsProgram}
+use Rattle.c_tree.specs.Conditions.{Program}
 use Rattle.c_mean.specs.Run.{program_run}
 use Rattle.mid_ir.specs.Whole.{mid_run}
 use Rattle.lower_code.specs.Programs.{lowered}

@@ -1,9 +1,9 @@
 -- What two activations have in common: one of a function of the tree, and one of its middle form.
-use Rattle.std.specs.Prelude.{◌≡◌, ℕ, ◌+◌, ◌≤◌, ◌<◌, Bool, true, List, Option, Some, None, slice_get}
+use Rattle.std.specs.Prelude.{◌≡◌, ℕ, ◌+◌, ◌≤◌, ◌<◌, true, List, Some, slice_get}
 use Rattle.ns_types.specs.declared.event.CEvent.TheVariants as c
 use Rattle.ns_types.specs.Operators.{truth}
 use Rattle.ns_types.specs.Boundary.{eight_zeros}
-use Rattle.ns_types.specs.CRun.{World, Outcome, emit, mark_at}
+use Rattle.ns_types.specs.CRun.{World, emit, mark_at}
 use Rattle.ns_types.specs.Alike.{low, Alike}
 use Rattle.c_tree.specs.Numbers.{Names}
 use Rattle.c_mean.specs.Values.{Spot, Unplaced, At, spot_in}
