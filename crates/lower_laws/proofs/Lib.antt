@@ -23,3 +23,4 @@ pub mod ExprRanges
 pub mod StmtRanges
 pub mod FunctionRanges
 pub mod ProgramLaws
+pub mod MidLaws
