@@ -1,5 +1,5 @@
 -- Small programs, as contracts see them.
-use Rattle.std.specs.Prelude.{ℕ, Bool, true, false, List, [], ◌∷◌, codes, replicate, Some, None}
+use Rattle.std.specs.Prelude.{ℕ, Bool, true, false, List, [], ◌∷◌, codes, replicate, Some}
 use Rattle.cm_base.specs.declared.place.Place.{Place}
 use Rattle.c_types.specs.declared.arith.Arith.TheVariants as a
 use Rattle.c_types.specs.declared.ctype.CType.{CType}
@@ -10,7 +10,6 @@ use Rattle.c_tree.specs.declared.expr.ExprKind.{ExprKind}
 use Rattle.c_tree.specs.declared.expr.ExprKind.TheVariants as kind
 use Rattle.c_tree.specs.declared.program.TFunction.{TFunction}
 use Rattle.c_tree.specs.declared.program.TLocal.{TLocal}
-use Rattle.c_tree.specs.declared.stmt.Item.{Item}
 use Rattle.c_tree.specs.declared.stmt.Stmt.{Stmt}
 use Rattle.c_tree.specs.declared.stmt.Stmt.TheVariants as stmt
 

@@ -28,6 +28,7 @@ fn twice_body(alloc: Global) -> Result<Shared<Stmt>, NoMemory>
     Shared::new(alloc, Stmt::Block(list))
 }
 
+#[tactic(auto, unfolding(c_names::specs::Name::is_name, c_names::specs::Name::is_name_byte, c_names::specs::Name::is_letter, c_names::specs::Name::is_digit))]
 fn twice(alloc: Global) -> Result<TFunction, NoMemory>
     ensures { IfOk result (λ f. f ≡ spec.twice) }
 {
@@ -41,6 +42,7 @@ fn twice(alloc: Global) -> Result<TFunction, NoMemory>
     function(alloc, b"twice", true, 2, f, twice_body(alloc)?)
 }
 
+#[tactic(auto, unfolding(c_names::specs::Name::is_name, c_names::specs::Name::is_name_byte, c_names::specs::Name::is_letter, c_names::specs::Name::is_digit))]
 fn one_more(alloc: Global) -> Result<TFunction, NoMemory>
     ensures { IfOk result (λ f. f ≡ spec.one) }
 {
@@ -51,7 +53,7 @@ fn one_more(alloc: Global) -> Result<TFunction, NoMemory>
 /// `typedef unsigned __attribute__((cmse_nonsecure_call)) nsf(unsigned);`
 /// `unsigned ENTRY twice(unsigned t, unsigned a) { nsf *f = (nsf *)t; return f(a) + a; }`
 /// `unsigned ENTRY one(unsigned a) { return a + 1u; }`
-#[tactic(auto, using(crate::proofs::Programs::calls_out_is), unfolding(c_names::specs::Name::is_name))]
+#[tactic(auto, using(crate::proofs::WithinLaws::calls_out_is), unfolding(c_names::specs::Name::is_name, c_names::specs::Name::is_name_byte, c_names::specs::Name::is_letter, c_names::specs::Name::is_digit))]
 pub fn calls_out(alloc: Global) -> Result<Program, NoMemory> {
     let mut functions = one(alloc, twice(alloc)?)?;
     functions.push(one_more(alloc)?)?;
@@ -68,6 +70,7 @@ fn call(alloc: Global, n: u32, arg: Node) -> Result<Node, NoMemory>
 }
 
 /// `unsigned r(unsigned n) { return r(n + 1u) + 1u; }`
+#[tactic(auto, unfolding(c_names::specs::Name::is_name, c_names::specs::Name::is_name_byte, c_names::specs::Name::is_letter, c_names::specs::Name::is_digit))]
 fn endless(alloc: Global) -> Result<TFunction, NoMemory>
     ensures { IfOk result (λ f. f ≡ spec.endless) }
 {
@@ -76,6 +79,7 @@ fn endless(alloc: Global) -> Result<TFunction, NoMemory>
     function(alloc, b"r", false, 1, List::new(alloc), body)
 }
 
+#[tactic(auto, unfolding(c_names::specs::Name::is_name, c_names::specs::Name::is_name_byte, c_names::specs::Name::is_letter, c_names::specs::Name::is_digit))]
 fn go(alloc: Global) -> Result<TFunction, NoMemory>
     ensures { IfOk result (λ f. f ≡ spec.go) }
 {
@@ -84,7 +88,7 @@ fn go(alloc: Global) -> Result<TFunction, NoMemory>
 }
 
 /// `unsigned r(unsigned n) { return r(n + 1u) + 1u; } unsigned ENTRY go(void) { return r(0u); }`
-#[tactic(auto, using(crate::proofs::Programs::calls_itself_is), unfolding(c_names::specs::Name::is_name))]
+#[tactic(auto, using(crate::proofs::WithinLaws::calls_itself_is), unfolding(c_names::specs::Name::is_name, c_names::specs::Name::is_name_byte, c_names::specs::Name::is_letter, c_names::specs::Name::is_digit))]
 pub fn calls_itself(alloc: Global) -> Result<Program, NoMemory> {
     let mut functions = one(alloc, endless(alloc)?)?;
     functions.push(go(alloc)?)?;
