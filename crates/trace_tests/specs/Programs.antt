@@ -37,8 +37,8 @@ local n = node (kind.Local n) word
 abbrev pub sum : Expr → Expr → Expr
 sum e f = node (kind.Binary bin.Add e f) word
 
-abbrev pub call : ℕ → Expr → Expr
-call n arg = node (kind.Call n (arg ∷ [])) word
+abbrev pub calling : ℕ → Expr → Expr
+calling n arg = node (kind.Call n (arg ∷ [])) word
 
 abbrev pub returning : Expr → Stmt
 returning e = stmt.Return (Some e)
@@ -81,10 +81,10 @@ calls_out = twice ∷ one ∷ []
 -- ---- a program that calls itself
 
 abbrev pub endless : TFunction
-endless = of_words (codes "r") false 1 [] (returning (sum (call 0 (sum (local 0) (number 1))) (number 1)))
+endless = of_words (codes "r") false 1 [] (returning (sum (calling 0 (sum (local 0) (number 1))) (number 1)))
 
 abbrev pub go : TFunction
-go = of_words (codes "go") true 0 [] (returning (call 0 (number 0)))
+go = of_words (codes "go") true 0 [] (returning (calling 0 (number 0)))
 
 abbrev pub calls_itself : List TFunction
 calls_itself = endless ∷ go ∷ []

@@ -62,8 +62,8 @@ pub fn calls_out(alloc: Global) -> Result<Program, NoMemory> {
     Ok(Program::new(functions, List::new(alloc), entries))
 }
 
-fn call(alloc: Global, n: u32, arg: Node) -> Result<Node, NoMemory>
-    ensures { IfOk result (λ e. e ≡ spec.call n arg) }
+fn calling(alloc: Global, n: u32, arg: Node) -> Result<Node, NoMemory>
+    ensures { IfOk result (λ e. e ≡ spec.calling n arg) }
 {
     let args = one(alloc, arg)?;
     node(alloc, ExprKind::Call(n, args), word())
@@ -74,7 +74,7 @@ fn call(alloc: Global, n: u32, arg: Node) -> Result<Node, NoMemory>
 fn endless(alloc: Global) -> Result<TFunction, NoMemory>
     ensures { IfOk result (λ f. f ≡ spec.endless) }
 {
-    let again = call(alloc, 0, sum(alloc, local(alloc, 0)?, number(alloc, 1)?)?)?;
+    let again = calling(alloc, 0, sum(alloc, local(alloc, 0)?, number(alloc, 1)?)?)?;
     let body = returning(alloc, sum(alloc, again, number(alloc, 1)?)?)?;
     function(alloc, b"r", false, 1, List::new(alloc), body)
 }
@@ -83,7 +83,7 @@ fn endless(alloc: Global) -> Result<TFunction, NoMemory>
 fn go(alloc: Global) -> Result<TFunction, NoMemory>
     ensures { IfOk result (λ f. f ≡ spec.go) }
 {
-    let body = returning(alloc, call(alloc, 0, number(alloc, 0)?)?)?;
+    let body = returning(alloc, calling(alloc, 0, number(alloc, 0)?)?)?;
     function(alloc, b"go", true, 0, List::new(alloc), body)
 }
 
