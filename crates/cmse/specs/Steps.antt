@@ -1,12 +1,12 @@
 -- What the steps of the commands do. No clause of the whole program speaks of it.
-use Rattle.std.specs.Prelude.{◌≡◌, ◌≢◌, ℕ, ◌⊎◌, List, codes, Option, Some, IsSome, Result, Ok, Err}
+use Rattle.std.specs.Prelude.{◌≡◌, ◌≢◌, ℕ, ◌≤◌, ◌⊎◌, List, codes, length, Option, Some, IsSome, Result, Ok, Err}
 use Rattle.cm_base.specs.Outside.{Files, held, OthersStay, given_more, GrownByPrefix}
-use Rattle.cmse.specs.Words.{Asked, build, run}
+use Rattle.cmse.specs.Words.{Asked, build, run, trace, texts}
 use Rattle.cmse.specs.Files.{OutputChange, OutputStays, OthersThanStay}
 use Rattle.cmse.specs.Build.{refusal_of}
 use Rattle.cmse.specs.Run.{Unfit, in_image, in_script}
 use Rattle.cmse.specs.declared.words.Command.{Command}
-use Rattle.cmse.specs.declared.words.Command.TheVariants.{Build, Run}
+use Rattle.cmse.specs.declared.words.Command.TheVariants.{Build, Run, Trace}
 use Rattle.cmse.specs.declared.run.Unplayed.{Unplayed}
 use Rattle.cmse.specs.declared.run.Unplayed.TheVariants as unplayed
 use Rattle.cmse.specs.declared.status.Status.{Status}
@@ -21,11 +21,13 @@ Gives view (Err k) answer = answer ≡ Err k
 abbrev pub asked_by : Command → Asked
 asked_by (Build image library source) = build image.now library.now source.now
 asked_by (Run steps image script) = run steps image.now script.now
+asked_by (Trace turns library script sources) = trace turns library.now script.now (texts sources.now)
 
--- the files that a command writes differ
-abbrev pub FilesDiffer : Command → Type 0
-FilesDiffer (Build image library source) = image.now ≢ library.now
-FilesDiffer _ = Unit {0}
+-- the files that a command writes differ, and it has at most 32 sources
+abbrev pub IsSound : Command → Type 0
+IsSound (Build image library source) = image.now ≢ library.now
+IsSound (Run steps image script) = Unit {0}
+IsSound (Trace turns library script sources) = length sources.now ≤ 32
 
 -- where the store tells its files, it holds these bytes under this name
 abbrev pub Holds : Option Files → List ℕ → List ℕ → Type 0

@@ -1,5 +1,5 @@
 -- What a list of words asks for.
-use Rattle.std.specs.Prelude.{ℕ, ◌+◌, ◌-◌, ◌*◌, ◌==◌, nat_le, Bool, false, not, ◌&&◌, List, [], ◌∷◌, map, codes, length, slice_get, option_and_then, String, Option, Some, None, Result, Ok, Err, if◌then◌else◌}
+use Rattle.std.specs.Prelude.{ℕ, ◌+◌, ◌-◌, ◌*◌, ◌==◌, nat_le, Bool, false, not, ◌&&◌, zero, suc, List, [], ◌∷◌, map, codes, length, drop, slice_get, option_and_then, String, Option, Some, None, Result, Ok, Err, if◌then◌else◌}
 use Rattle.std.specs.String.{string_bytes}
 use Rattle.std.specs.declared.alloc.Global.{Global}
 use Rattle.std.specs.Str.{bytes_eq}
@@ -11,6 +11,7 @@ Words = List (List ℕ)
 pub data Asked : Type 0 where
   build : List ℕ → List ℕ → List ℕ → Asked
   run : ℕ → List ℕ → List ℕ → Asked
+  trace : ℕ → List ℕ → List ℕ → List (List ℕ) → Asked
 
 infixl 10 ◌>>=◌
 abbrev pub ◌>>=◌ : {A B : Type 0} → Result A ℕ → (A → Result B ℕ) → Result B ℕ
@@ -98,19 +99,41 @@ number_of (Some w) k = or_bad (number w) k
 abbrev pub number_at : Words → ℕ → Result ℕ ℕ
 number_at words k = number_of (word words k) k
 
--- the number of steps of `run`
-abbrev pub steps_of : Words → Result ℕ ℕ
-steps_of words = if is_word words 2 (codes "-n") then number_at words 3 else Err 2
+-- the number behind the option `-n` at place k
+abbrev pub number_behind : Words → ℕ → Result ℕ ℕ
+number_behind words k = if is_word words k (codes "-n") then number_at words (k + 1) else Err k
 
 unfoldable pub run_asked : Words → Result Asked ℕ
 run_asked words =
-    steps_of words >>= λ steps. name_at words 4 >>= λ image. name_at words 5 >>= λ script. end_at words 6 >>= λ _. Ok (run steps image script)
+    number_behind words 2 >>= λ steps. name_at words 4 >>= λ image. name_at words 5 >>= λ script. end_at words 6 >>= λ _. Ok (run steps image script)
+
+-- the turns and the library of `trace`, whose options come in either order
+unfoldable pub trace_options : Words → Result (ℕ × List ℕ) ℕ
+trace_options words =
+    if is_word words 2 (codes "-l")
+    then (value_at words 2 (codes "-l") >>= λ library. number_behind words 4 >>= λ turns. Ok (turns, library))
+    else (number_behind words 2 >>= λ turns. value_at words 4 (codes "-l") >>= λ library. Ok (turns, library))
+
+-- that words, the first of them word number k, are names, and at most so many
+pub names_only : ℕ → ℕ → Words → Result (Unit {0}) ℕ
+names_only most k [] = Ok tt
+names_only zero k (w ∷ ws) = Err k
+names_only (suc most) k (w ∷ ws) = if is_name w then names_only most (k + 1) ws else Err k
+
+-- the 1 to 32 names from place k on, which end the words
+abbrev pub sources_at : Words → ℕ → Result Words ℕ
+sources_at words k = name_at words k >>= λ _. names_only 32 k (drop (k - 1) words) >>= λ _. Ok (drop (k - 1) words)
+
+unfoldable pub trace_asked : Words → Result Asked ℕ
+trace_asked words =
+    trace_options words >>= λ options. name_at words 6 >>= λ script. sources_at words 7 >>= λ sources. Ok (trace options.0 options.1 script sources)
 
 -- What the words ask for, or the number of the first word that no command allows there.
 unfoldable pub asked_of : Words → Result Asked ℕ
 asked_of words =
     if is_word words 1 (codes "build") then build_asked words
-    else (if is_word words 1 (codes "run") then run_asked words else Err 1)
+    else (if is_word words 1 (codes "run") then run_asked words
+    else (if is_word words 1 (codes "trace") then trace_asked words else Err 1))
 
 -- words of the program as their bytes
 abbrev pub texts : List (String Global) → Words

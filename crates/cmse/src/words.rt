@@ -1,8 +1,8 @@
 //! The command line.
-ghost use Rattle.std.specs.Prelude.{◌≡◌, ◌≢◌, ◌<◌, IfOk, IfSome};
+ghost use Rattle.std.specs.Prelude.{◌≡◌, ◌≢◌, ◌<◌, ◌≤◌, length, IfOk, IfSome};
 ghost use Rattle.std.specs.Option.{option_copied};
-ghost use Rattle.cmse.specs.Words.{texts, word, is_name, is_word, name_at, value_at, differing_at, end_at, options_of, digit, number, number_at, steps_of, build_asked, run_asked, asked_of};
-ghost use Rattle.cmse.specs.Steps.{Gives, asked_by, FilesDiffer};
+ghost use Rattle.cmse.specs.Words.{texts, word, is_name, is_word, name_at, value_at, differing_at, end_at, options_of, digit, number, number_at, number_behind, build_asked, run_asked, trace_options, names_only, sources_at, trace_asked, asked_of};
+ghost use Rattle.cmse.specs.Steps.{Gives, asked_by, IsSound};
 
 /// What a command line asks for, with the names of its files.
 #[derive(Clone, Copy, Debug)]
@@ -18,6 +18,14 @@ pub enum Command<'a> {
         steps: u32,
         image: &'a str,
         script: &'a str,
+    },
+    /// Evaluate 1 to 32 sources for a script, with the entries of a library at their old addresses, for at most some turns
+    /// of each loop.
+    Trace {
+        turns: u32,
+        library: &'a str,
+        script: &'a str,
+        sources: &'a [String],
     },
 }
 
@@ -160,21 +168,23 @@ fn number_at(words: &[String], k: u32) -> Result<u32, u32>
     }
 }
 
-/// The number of steps, the value of the option `-n` of `run`.
-fn steps_of(words: &[String]) -> Result<u32, u32>
-    ensures { Gives (λ n. n) result (steps_of (texts words.now)) }
+/// The number behind the option `-n` at place k.
+fn number_behind(words: &[String], k: u32) -> Result<u32, u32>
+    requires low { 0 < k }
+    requires high { k < 100 }
+    ensures { Gives (λ n. n) result (number_behind (texts words.now) k) }
 {
-    if is_word(words, 2, "-n") {
-        number_at(words, 3)
+    if is_word(words, k, "-n") {
+        number_at(words, k + 1)
     } else {
-        Err(2)
+        Err(k)
     }
 }
 
 #[tactic(auto, unfolding(crate::specs::Words::build_asked))]
 fn build_asked(words: &[String]) -> Result<Command<'_>, u32>
     ensures value { Gives asked_by result (build_asked (texts words.now)) }
-    ensures differ { IfOk result FilesDiffer }
+    ensures sound { IfOk result IsSound }
 {
     let (image, library) = options_of(words)?;
     let source = name_at(words, 6)?;
@@ -189,9 +199,9 @@ fn build_asked(words: &[String]) -> Result<Command<'_>, u32>
 #[tactic(auto, unfolding(crate::specs::Words::run_asked))]
 fn run_asked(words: &[String]) -> Result<Command<'_>, u32>
     ensures value { Gives asked_by result (run_asked (texts words.now)) }
-    ensures differ { IfOk result FilesDiffer }
+    ensures sound { IfOk result IsSound }
 {
-    let steps = steps_of(words)?;
+    let steps = number_behind(words, 2)?;
     let image = name_at(words, 4)?;
     let script = name_at(words, 5)?;
     end_at(words, 6)?;
@@ -202,17 +212,80 @@ fn run_asked(words: &[String]) -> Result<Command<'_>, u32>
     })
 }
 
+/// The values of the options `-n` and `-l` of `trace`, in either order.
+#[tactic(auto, unfolding(crate::specs::Words::trace_options))]
+fn trace_options(words: &[String]) -> Result<(u32, &str), u32>
+    ensures { Gives (λ x. (x.0, x.1.now)) result (trace_options (texts words.now)) }
+{
+    if is_word(words, 2, "-l") {
+        let library = value_at(words, 2, "-l")?;
+        let turns = number_behind(words, 4)?;
+        Ok((turns, library))
+    } else {
+        let turns = number_behind(words, 2)?;
+        let library = value_at(words, 4, "-l")?;
+        Ok((turns, library))
+    }
+}
+
+/// That these words, the first of them word number k, are names, and at most 32.
+#[tactic(auto, using(crate::proofs::NameLaws::names))]
+fn names_only(words: &[String], k: u32) -> Result<(), u32>
+    requires { k < 100 }
+    ensures value { Gives (λ _. tt) result (names_only 32 k (texts words.now)) }
+    ensures few { IfOk result (λ _. length words.now ≤ 32) }
+{
+    for i in 0..words.len() {
+        if i >= 32 || !is_name(words[i].as_str()) {
+            return Err(k + i as u32);
+        }
+    }
+    Ok(())
+}
+
+/// The names from place k on.
+#[tactic(auto, using(crate::proofs::NameLaws::sources))]
+fn sources_at(words: &[String], k: u32) -> Result<&[String], u32>
+    requires low { 0 < k }
+    requires high { k < 100 }
+    ensures value { Gives (λ x. texts x.now) result (sources_at (texts words.now) k) }
+    ensures few { IfOk result (λ x. length x.now ≤ 32) }
+{
+    name_at(words, k)?;
+    let sources = &words[k as usize - 1..];
+    names_only(sources, k)?;
+    Ok(sources)
+}
+
+#[tactic(auto, unfolding(crate::specs::Words::trace_asked))]
+fn trace_asked(words: &[String]) -> Result<Command<'_>, u32>
+    ensures value { Gives asked_by result (trace_asked (texts words.now)) }
+    ensures sound { IfOk result IsSound }
+{
+    let (turns, library) = trace_options(words)?;
+    let script = name_at(words, 6)?;
+    let sources = sources_at(words, 7)?;
+    Ok(Command::Trace {
+        turns,
+        library,
+        script,
+        sources,
+    })
+}
+
 /// What the words after the program's name ask for, or the number of the first bad one, counted from 1: the first
 /// word that no command allows there, or the number after the last word where words are missing.
 #[tactic(auto, unfolding(crate::specs::Words::asked_of))]
 pub fn read_words(words: &[String]) -> Result<Command<'_>, u32>
     ensures value { Gives asked_by result (asked_of (texts words.now)) }
-    ensures differ { IfOk result FilesDiffer }
+    ensures sound { IfOk result IsSound }
 {
     if is_word(words, 1, "build") {
         build_asked(words)
     } else if is_word(words, 1, "run") {
         run_asked(words)
+    } else if is_word(words, 1, "trace") {
+        trace_asked(words)
     } else {
         Err(1)
     }
