@@ -3,5 +3,7 @@ pub mod Words
 pub mod Files
 pub mod Build
 pub mod Run
+pub mod Trace
 pub mod Command
 pub mod Steps
+pub mod TraceSteps

@@ -7,6 +7,7 @@ ghost use Rattle.cmse.specs.Command.{CommandEnds};
 use crate::build::build;
 use crate::run::run;
 use crate::status::Status;
+use crate::trace::trace;
 use crate::words::{Command, read_words};
 use cm_base::{Sink, Store};
 use std::alloc::Global;
@@ -16,7 +17,8 @@ use std::alloc::Global;
 /// Where `build` answers `Done` over a store that tells its files, the source is that of one entry that gives a
 /// number, the library and the image are exactly those of this entry, and the device that the image reads as does what
 /// the program does, for every start, every list of Non-secure turns and every number of steps. Where `run` answers
-/// `Done` the output has grown by the transcript of the machine's run from that image and script.
+/// `Done` the output has grown by the transcript of the machine's run from that image and script. Where `trace` does, it has
+/// grown by the transcript of what the C program of these sources does for that script; a fault of them is told as `Refused`.
 pub fn cmse_main<S: Store, K: Sink>(
     alloc: Global,
     words: &[String],
@@ -57,5 +59,13 @@ pub fn cmse_main<S: Store, K: Sink>(
                 script,
             },
         ) => run(alloc, store, out, steps, image, script),
+        Ok(
+            Command::Trace {
+                turns,
+                library,
+                script,
+                sources,
+            },
+        ) => trace(alloc, store, out, turns, library, script, sources),
     }
 }

@@ -7,6 +7,7 @@ mod command;
 mod files;
 mod run;
 mod status;
+mod trace;
 mod words;
 
 pub use command::cmse_main;

@@ -100,7 +100,7 @@ fn play(alloc: Global, image: &[u8], script: &[u8], steps: u32) -> Result<Bytes,
 }
 
 // An unfit file, or want of memory.
-fn unfit(alloc: Global, file: &str, at: u32) -> Status
+pub fn unfit(alloc: Global, file: &str, at: u32) -> Status
     ensures { IsUnfit file.now at result }
 {
     match Text::from_slice(alloc, file.as_bytes()) {
@@ -110,7 +110,7 @@ fn unfit(alloc: Global, file: &str, at: u32) -> Status
 }
 
 // Puts the transcript out.
-fn put<K: Sink>(alloc: Global, out: &mut K, text: &[u8]) -> Status
+pub fn put<K: Sink>(alloc: Global, out: &mut K, text: &[u8]) -> Status
     ensures ends { PutEnds (record {
       before = K.given out.old;
       after = K.given out.new;
