@@ -70,7 +70,7 @@ fn sources<S: Store>(alloc: Global, store: &mut S, names: &[String]) -> Result<L
 }
 
 /// The library, the script and the sources from the store, in this order.
-fn inputs<S: Store>(
+fn read_inputs<S: Store>(
     alloc: Global,
     store: &mut S,
     library: &str,
@@ -130,7 +130,7 @@ pub fn trace<S: Store, K: Sink>(
     ensures writes_stay { S.write_faults store.new ≡ S.write_faults store.old }
     ensures puts_only_rise { K.faults out.old ≤ K.faults out.new }
 {
-    let inputs = match inputs(alloc, store, library, script, names) {
+    let inputs = match read_inputs(alloc, store, library, script, names) {
         Ok(inputs) => inputs,
         Err(status) => return status,
     };
