@@ -1,2 +1,5 @@
 pub mod Rows
 pub mod Copy
+pub mod States
+pub mod Pieces
+pub mod Ready

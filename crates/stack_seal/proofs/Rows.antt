@@ -1,9 +1,12 @@
 -- Bytes written one behind the other over a list, and bytes of a list read so.
-use Rattle.std.proofs.Common.{◌≡◌, ℕ, zero, suc, ◌+◌, ◌≤◌, ◌<◌, List, [], ◌∷◌, ◌++◌, length, take, drop, refl, sym, ap, ◌∙◌, subst, arith, ⊎_elim, append_assoc, length-append}
+use Rattle.std.proofs.Common.{◌≡◌, ℕ, zero, suc, ◌+◌, ◌≤◌, ◌<◌, List, [], ◌∷◌, ◌++◌, length, take, drop, refl, sym, ap, ◌∙◌, subst, arith, ⊎_elim, inr, append_assoc, length-append}
 use Rattle.std.specs.Prelude.{slice_index, slice_set}
-use Rattle.std.proofs.Math.Seq.{set-append_seam}
-use Rattle.std.proofs.lemmas.List.{drop_more, drop_all, length-set}
+use Rattle.std.proofs.Math.Seq.{set-append_seam, take-set-lt}
+use Rattle.std.proofs.lemmas.List.{drop_more, drop_all, length-set, length-take-le}
 use Rattle.std.proofs.lemmas.Bool.{cases_lt}
+use Rattle.ns_types.specs.Memory.{word_at}
+use Rattle.v8m_core.proofs.Words.{other_byte}
+use Rattle.v8m_laws.proofs.Numbers.{number_alike}
 
 -- a list with bytes written from a place on
 abbrev pub over : ℕ → List ℕ → List ℕ → List ℕ
@@ -60,3 +63,19 @@ first row o b bs h = ⊎_elim within (λ le. absurd (none le)) (cases_lt o (leng
         let e : slice_index row o ∷ take (length bs) (drop (o + 1) row) ≡ b ∷ bs = ap (take (suc (length bs))) (sym open_it) ∙ h in
         let p : suc o ≡ o + 1 = omega arith in
         record { here = heads (slice_index row o) b (take (length bs) (drop (o + 1) row)) bs e; rest = ap (λ q. take (length bs) (drop q row)) p ∙ tails (slice_index row o) b (take (length bs) (drop (o + 1) row)) bs e }
+
+-- a word behind what is written
+byte_behind : (o : ℕ) (bs row : List ℕ) (q : ℕ) → o + length bs ≤ q → slice_index (over o bs row) q ≡ slice_index row q
+byte_behind o [] row q le = refl
+byte_behind o (b ∷ bs) row q le = byte_behind (suc o) bs (slice_set row o b) q (omega arith) ∙ other_byte row o q b (λ e. omega arith)
+
+pub word_behind : (o : ℕ) (bs row : List ℕ) (p : ℕ) → o + length bs ≤ p → word_at (over o bs row) p ≡ word_at row p
+word_behind o bs row p le = number_alike 4 (inr (inr refl)) (over o bs row) row p (λ q from to. byte_behind o bs row q (omega arith))
+
+-- the front of a list
+front_over : (k o : ℕ) (bs row : List ℕ) → o + length bs ≤ k → take k (over o bs row) ≡ over o bs (take k row)
+front_over k o [] row le = refl
+front_over k o (b ∷ bs) row le = front_over k (suc o) bs (slice_set row o b) (omega arith) ∙ ap (over (suc o) bs) (take-set-lt k row o b (omega arith))
+
+pub front_is : (k : ℕ) (bs row : List ℕ) → length bs ≤ k → k ≤ length row → take k (over 0 bs row) ≡ bs ++ drop (length bs) (take k row)
+front_is k bs row le fits = front_over k 0 bs row (omega arith) ∙ over_front bs (take k row) (subst (λ n. length bs ≤ n) (sym (length-take-le k row fits)) le)
