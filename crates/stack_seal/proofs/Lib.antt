@@ -3,3 +3,4 @@ pub mod Copy
 pub mod States
 pub mod Pieces
 pub mod Ready
+pub mod Whole

@@ -8,7 +8,7 @@ use Rattle.ns_types.specs.declared.event.CEvent.TheVariants as c
 use Rattle.ns_types.specs.State.{Device, Memory, State}
 use Rattle.ns_types.specs.Platform.{row_size, aligned}
 use Rattle.ns_types.specs.Memory.{word_at, put_word, store, secure_ram_size, IsWhole, IsStart}
-use Rattle.ns_types.specs.SecureRam.{main_seal, process_seal, data_pointer, seal_word, ram_place}
+use Rattle.ns_types.specs.SecureRam.{main_limit, main_seal, process_limit, process_seal, data_pointer, seal_word, ram_place}
 use Rattle.ns_types.specs.Boundary.{view_of, reset_address, start_mark}
 use Rattle.v8m_core.specs.Step.{seen}
 use Rattle.v8m_core.specs.Reset.{reset_of}
@@ -78,9 +78,6 @@ module _ (base : ℕ) (bs ram : List ℕ) (len : length ram ≡ secure_ram_size)
   length_five : length (five bs ram) ≡ secure_ram_size
   length_five = length-over 0 bs (four ram) ∙ length_four
 
-  pub length_six : length (six base bs ram) ≡ secure_ram_size
-  length_six = length-put_word (five bs ram) (ram_place data_pointer) base ∙ length_five
-
   -- what is neither in Secure data nor the data stack's pointer
   behind : (p : ℕ) → 65536 ≤ p → p + 4 ≤ ram_place data_pointer → word_at (six base bs ram) p ≡ word_at (four ram) p
   behind p from to = other_word (five bs ram) (ram_place data_pointer) p base (inl to) ∙ word_behind 0 bs (four ram) p (omega arith)
@@ -121,3 +118,54 @@ module _ (base : ℕ) (bs ram : List ℕ) (len : length ram ≡ secure_ram_size)
       front (five bs ram) (ram_place data_pointer) base (omega arith)
       ∙ front_is 65536 bs (four ram) (omega arith) (omega (arith, length_four))
       ∙ ap (λ r. bs ++ drop (length bs) r) (front (three ram) (ram_place (main_seal + 4)) seal_word (omega arith) ∙ front (two ram) (ram_place main_seal) seal_word (omega arith) ∙ front (one ram) (ram_place (process_seal + 4)) seal_word (omega arith) ∙ front ram (ram_place process_seal) seal_word (omega arith))
+
+pub length_ready : (base : ℕ) (bs ram : List ℕ) → length ram ≡ secure_ram_size → length (six base bs ram) ≡ secure_ram_size
+length_ready base bs ram len =
+    length-put_word (five bs ram) (ram_place data_pointer) base ∙ length-over 0 bs (four ram) ∙ length-put_word (three ram) (ram_place (main_seal + 4)) seal_word ∙ length-put_word (two ram) (ram_place main_seal) seal_word
+    ∙ length-put_word (one ram) (ram_place (process_seal + 4)) seal_word ∙ length-put_word ram (ram_place process_seal) seal_word ∙ len
+
+-- The same of memory behind the start code
+
+module _ (base : ℕ) (bs : List ℕ) (m : Memory) (w : IsWhole m) where
+  pub whole_is : IsWhole (ready_memory base bs m)
+  whole_is = record {
+    ns_rom = ap length (ns_rom_is base bs m) ∙ w.ns_rom;
+    ns_ram = ap length (ns_ram_is base bs m) ∙ w.ns_ram;
+    secure_ram = ap length (ram_is base bs m) ∙ length_ready base bs m.secure_ram w.secure_ram;
+  }
+
+module _ (base : ℕ) (bs : List ℕ) (m : Memory) (w : IsWhole m) (few : length bs ≤ 49152) (small : base < 4294967296) where
+  pub data_is : take (row_size 4) (ready_memory base bs m).secure_ram ≡ bs ++ drop (length bs) (take (row_size 4) m.secure_ram)
+  data_is = ap (take 65536) (ram_is base bs m) ∙ data base bs m.secure_ram w.secure_ram few small
+
+  pub pointer_is : word_at (ready_memory base bs m).secure_ram (ram_place data_pointer) ≡ base
+  pointer_is = ap (λ r. word_at r (ram_place data_pointer)) (ram_is base bs m) ∙ pointer base bs m.secure_ram w.secure_ram few small
+
+  -- a word of a state whose memory it is
+  word_is : (s : State) (p : ℕ) → s.memory ≡ ready_memory base bs m → word_at (six base bs m.secure_ram) p ≡ seal_word → word_at s.memory.secure_ram p ≡ seal_word
+  word_is s p e h = ap (λ (x : Memory). word_at x.secure_ram p) e ∙ ap (λ r. word_at r p) (ram_is base bs m) ∙ h
+
+  pub sealed_is : (s : State) → s.memory ≡ ready_memory base bs m → s.cpu.regs.sp ≡ main_seal → s.cpu.msplim ≡ main_limit → s.cpu.psp ≡ process_seal → s.cpu.psplim ≡ process_limit → IsSealed s
+  sealed_is s e msp limit psp process = record {
+    msp = msp;
+    main_limit = limit;
+    psp = psp;
+    process_limit = process;
+    main_low = word_is s (ram_place main_seal) e (main_low base bs m.secure_ram w.secure_ram few small);
+    main_high = word_is s (ram_place (main_seal + 4)) e (main_high base bs m.secure_ram w.secure_ram few small);
+    process_low = word_is s (ram_place process_seal) e (process_low base bs m.secure_ram w.secure_ram few small);
+    process_high = word_is s (ram_place (process_seal + 4)) e (process_high base bs m.secure_ram w.secure_ram few small);
+  }
+
+-- The registers
+
+pub link_is : (start : Start) (rom : List ℕ) → rom ≡ start.ns_rom → bit_and (word_at rom 4) 0xFFFFFFFE ≡ reset_address start
+link_is start rom e = ap (λ r. bit_and (word_at r 4) 0xFFFFFFFE) e ∙ clear_bit_0 (word_at start.ns_rom 4) (word_at_lt start.ns_rom 4)
+
+-- what the caller sees, by the link register and by the main stack pointer
+abbrev pub ready_view : Start → (lr msp_ns : ℕ) → View
+ready_view start lr msp_ns = record { r = 0 ∷ 0 ∷ 0 ∷ 0 ∷ 0 ∷ 0 ∷ 0 ∷ 0 ∷ 0 ∷ 0 ∷ 0 ∷ 0 ∷ 0 ∷ []; lr = lr; pc = reset_address start; nzcvq = 0; msp_ns = msp_ns; psp_ns = 0 }
+
+pub view_is : (start : Start) (rom : List ℕ) → rom ≡ start.ns_rom → view_of c.Started (start_mark start) ≡ Some (ready_view start (bit_and (word_at rom 4) 0xFFFFFFFE) (aligned 4 (word_at rom 0)))
+view_is start rom e =
+    ap (λ l. Some (ready_view start l (aligned 4 (word_at start.ns_rom 0)))) (sym (link_is start rom e)) ∙ ap (λ r. Some (ready_view start (bit_and (word_at rom 4) 0xFFFFFFFE) (aligned 4 (word_at r 0)))) (sym e)

@@ -11,6 +11,6 @@ ghost use Rattle.stack_seal.specs.Begins.{Begins, HandsOver};
 /// The start code for contents at any address hands over with all ready. So the address may be put into its first two instructions
 /// later. What hands over so has both stacks sealed after the first hand-over.
 pub fn start()
-    ensures begins { (init len base : ℕ) → init < 2 ^ 32 → len ≤ 49152 → base < 2 ^ 32 → Begins (map Op (start_code init len base)) init len base }
+    ensures begins { (init len base : ℕ) → len ≤ 49152 → base < 2 ^ 32 → Begins (map Op (start_code init len base)) init len base }
     ensures sealed { (device : Device) (start : Start) (contents : List ℕ) (base : ℕ) → HandsOver device start contents base → BeginsOutside start → HandsOverSealed device start }
 {}
