@@ -90,10 +90,10 @@ stores_byte device s o b at lt is small =
     writable_four false false z h = cc
 
 -- what is fixed while the loop runs
-record Loop (device : Device) (s : State) (end : ℕ) : Type 0 where
-  code : HasCode device s.cpu.pc copy_code
-  end_is : s.cpu.regs.r2 ≡ SECURE_DATA.from + end
-  fits : end ≤ 65536
+pub record Loop (device : Device) (s : State) (end : ℕ) : Type 0 where
+  pub code : HasCode device s.cpu.pc copy_code
+  pub end_is : s.cpu.regs.r2 ≡ SECURE_DATA.from + end
+  pub fits : end ≤ 65536
 
 loop_low : (device : Device) (s : State) (end : ℕ) → Loop device s end → s.cpu.pc < 4000000000
 loop_low device s end l = let low = is_low device s.cpu.pc (Cmp 1 2) l.code.0 in omega arith
@@ -152,16 +152,18 @@ pub record Copied (device : Device) (s from : State) (m : Memory) : Type 0 where
   pub flags : ℕ
   pub comes : Comes device steps from (turning s r0 r1 r3 (past s.cpu.pc copy_code) flags m)
 
-copies : (device : Device) (s : State) (end : ℕ) → Loop device s end → (bs : List ℕ) (p o x f : ℕ) (m : Memory) → o + length bs ≡ end → SECURE_ROM.from + p + length bs ≤ SECURE_ROM.to → Stand device.rom p bs → All (λ b. b < 256) bs
+pub copies : (device : Device) (s : State) (end : ℕ) → Loop device s end → (bs : List ℕ) (p o x f : ℕ) (m : Memory) → o + length bs ≡ end → SECURE_ROM.from + p + length bs ≤ SECURE_ROM.to → Stand device.rom p bs → All (λ b. b < 256) bs
     → Copied device s (turning s (SECURE_ROM.from + p) (SECURE_DATA.from + o) x s.cpu.pc f m) (with_ram m (over o bs m.secure_ram))
 copies device s end l [] p o x f m total lt stand bytes =
     let e : end ≡ o = omega arith in
-    record { steps = 2; r0 = _; r1 = _; r3 = _; flags = _; comes = subst (λ q. Comes device 2 (turning s (SECURE_ROM.from + p) (SECURE_DATA.from + q) x s.cpu.pc f m) (turning s (SECURE_ROM.from + p) (SECURE_DATA.from + end) x (past s.cpu.pc copy_code) (compared (SECURE_DATA.from + end) s.cpu.regs.r2 f) m)) e (out device s end l (SECURE_ROM.from + p) x f m) }
+    record { steps = 2; r0 = SECURE_ROM.from + p; r1 = SECURE_DATA.from + end; r3 = x; flags = compared (SECURE_DATA.from + end) s.cpu.regs.r2 f; comes = subst (λ q. Comes device 2 (turning s (SECURE_ROM.from + p) (SECURE_DATA.from + q) x s.cpu.pc f m) (turning s (SECURE_ROM.from + p) (SECURE_DATA.from + end) x (past s.cpu.pc copy_code) (compared (SECURE_DATA.from + end) s.cpu.regs.r2 f) m)) e (out device s end l (SECURE_ROM.from + p) x f m) }
 copies device s end l (b ∷ bs) p o x f m total lt stand bytes =
     let h = first device.rom p b bs stand in
     let small = All-head (λ b. b < 256) b bs bytes in
     let g : ℕ = compared (SECURE_DATA.from + o) s.cpu.regs.r2 f in
     let k : Memory = with_ram m (slice_set m.secure_ram o b) in
-    let one = turn device s end l p o b x f m (omega arith) (omega arith) h.here small in
+    let s0 : State = turning s (SECURE_ROM.from + p) (SECURE_DATA.from + o) x s.cpu.pc f m in
+    let s1 : State = turning s (SECURE_ROM.from + suc p) (SECURE_DATA.from + suc o) b s.cpu.pc g k in
+    let one : Comes device 7 s0 s1 = turn device s end l p o b x f m (omega arith) (omega arith) h.here small in
     let r = copies device s end l bs (suc p) (suc o) b g k (omega arith) (omega arith) h.rest (All-tail (λ b. b < 256) b bs bytes) in
-    record { steps = 7 + r.steps; r0 = r.r0; r1 = r.r1; r3 = r.r3; flags = r.flags; comes = comes_on device 7 r.steps _ _ _ one r.comes }
+    record { steps = 7 + r.steps; r0 = r.r0; r1 = r.r1; r3 = r.r3; flags = r.flags; comes = comes_on device 7 r.steps s0 s1 (turning s r.r0 r.r1 r.r3 (past s.cpu.pc copy_code) r.flags (with_ram m (over (suc o) bs (slice_set m.secure_ram o b)))) one r.comes }

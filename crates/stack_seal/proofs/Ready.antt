@@ -113,8 +113,8 @@ module _ (base : ℕ) (bs ram : List ℕ) (len : length ram ≡ secure_ram_size)
   front : (row : List ℕ) (o v : ℕ) → 65536 ≤ o → take 65536 (put_word row o v) ≡ take 65536 row
   front row o v le = front_kept 4 (inr (inr refl)) row 65536 o v le
 
-  pub data : take 65536 (six base bs ram) ≡ bs ++ drop (length bs) (take 65536 ram)
-  data =
+  pub front_data : take 65536 (six base bs ram) ≡ bs ++ drop (length bs) (take 65536 ram)
+  front_data =
       front (five bs ram) (ram_place data_pointer) base (omega arith)
       ∙ front_is 65536 bs (four ram) (omega arith) (omega (arith, length_four))
       ∙ ap (λ r. bs ++ drop (length bs) r) (front (three ram) (ram_place (main_seal + 4)) seal_word (omega arith) ∙ front (two ram) (ram_place main_seal) seal_word (omega arith) ∙ front (one ram) (ram_place (process_seal + 4)) seal_word (omega arith) ∙ front ram (ram_place process_seal) seal_word (omega arith))
@@ -136,7 +136,7 @@ module _ (base : ℕ) (bs : List ℕ) (m : Memory) (w : IsWhole m) where
 
 module _ (base : ℕ) (bs : List ℕ) (m : Memory) (w : IsWhole m) (few : length bs ≤ 49152) (small : base < 4294967296) where
   pub data_is : take (row_size 4) (ready_memory base bs m).secure_ram ≡ bs ++ drop (length bs) (take (row_size 4) m.secure_ram)
-  data_is = ap (take 65536) (ram_is base bs m) ∙ data base bs m.secure_ram w.secure_ram few small
+  data_is = ap (take 65536) (ram_is base bs m) ∙ front_data base bs m.secure_ram w.secure_ram few small
 
   pub pointer_is : word_at (ready_memory base bs m).secure_ram (ram_place data_pointer) ≡ base
   pointer_is = ap (λ r. word_at r (ram_place data_pointer)) (ram_is base bs m) ∙ pointer base bs m.secure_ram w.secure_ram few small

@@ -140,7 +140,7 @@ module _ (device : Device) (init base : ℕ) (start : Start) (bs : List ℕ) (wh
     side = refl;
     whole = ready.whole_is base bs (memory_of start) whole;
     stacks = ready.sealed_is base bs (memory_of start) whole few small (last r0 r1 r3 flags) refl (ap (aligned 4) stack) refl refl refl;
-    data = ready.data_is base bs (memory_of start) whole few small;
+    secure_data = ready.data_is base bs (memory_of start) whole few small;
     data_stack = ready.pointer_is base bs (memory_of start) whole few small;
     ns_ram = ready.ns_ram_is base bs (memory_of start);
     ns_rom = ready.ns_rom_is base bs (memory_of start);

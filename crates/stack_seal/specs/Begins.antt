@@ -32,7 +32,7 @@ pub record IsReady (start : Start) (contents : List ℕ) (base : ℕ) (s : State
   pub side : s.cpu.side ≡ Secure
   pub whole : IsWhole s.memory
   pub stacks : IsSealed s
-  pub data : take (row_size 4) s.memory.secure_ram ≡ contents ++ drop (length contents) (take (row_size 4) start.secure_ram)
+  pub secure_data : take (row_size 4) s.memory.secure_ram ≡ contents ++ drop (length contents) (take (row_size 4) start.secure_ram)
   pub data_stack : secure_word s data_pointer ≡ base
   pub ns_ram : s.memory.ns_ram ≡ start.ns_ram
   pub ns_rom : s.memory.ns_rom ≡ start.ns_rom
