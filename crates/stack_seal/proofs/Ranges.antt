@@ -55,14 +55,22 @@ store_ranges : AllInRange (Str 1 0 0 ∷ [])
 unfolding in_range_of
 store_ranges = tested (Str 1 0 0 ∷ []) refl
 
+range_ranges : (len : ℕ) → len ≤ 49152 → AllInRange (range_code len)
+range_ranges len few =
+    on (number_code 1 data_start) (number_code 2 (data_start + len)) (number_ranges 1 data_start refl (omega arith)) (number_ranges 2 (data_start + len) refl (omega arith))
+
+pointer_ranges : (base : ℕ) → base < 4294967296 → AllInRange (pointer_code base)
+pointer_ranges base lt =
+    on (number_code 0 data_pointer ++ number_code 1 base) (Str 1 0 0 ∷ []) (on (number_code 0 data_pointer) (number_code 1 base) (number_ranges 0 data_pointer refl (omega arith)) (number_ranges 1 base refl lt)) store_ranges
+
 start_ranges : (init len base : ℕ) → init < 4294967296 → len ≤ 49152 → base < 4294967296 → AllInRange (start_code init len base)
 start_ranges init len base small_init few small_base =
-    on (number_code 0 init) _ (number_ranges 0 init refl small_init)
-    (on stacks_code _ stacks_ranges
-    (on (range_code len) _ (on (number_code 1 data_start) (number_code 2 (data_start + len)) (number_ranges 1 data_start refl (omega arith)) (number_ranges 2 (data_start + len) refl (omega arith)))
-    (on copy_code _ copy_ranges
-    (on (pointer_code base) _ (on (number_code 0 data_pointer) (number_code 1 base ++ Str 1 0 0 ∷ []) (number_ranges 0 data_pointer refl (omega arith)) (on (number_code 1 base) (Str 1 0 0 ∷ []) (number_ranges 1 base refl small_base) store_ranges))
-    hand_ranges))))
+    let hand : List Instr = hand_code ++ Bxns 14 ∷ [] in
+    let point : List Instr = pointer_code base ++ hand in
+    let copy : List Instr = copy_code ++ point in
+    let range : List Instr = range_code len ++ copy in
+    on (number_code 0 init) (stacks_code ++ range) (number_ranges 0 init refl small_init)
+    (on stacks_code range stacks_ranges (on (range_code len) copy (range_ranges len few) (on copy_code point copy_ranges (on (pointer_code base) hand (pointer_ranges base small_base) hand_ranges))))
 
 by_recursion : (is : List Instr) → AllInRange is → AllByRecursion (λ a. IsTrue (is_in_range a)) (map Op is)
 by_recursion [] h = tt

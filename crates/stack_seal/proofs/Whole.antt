@@ -87,6 +87,10 @@ leaves : (device : Device) (s : State) (v : ℕ) → Holds device s.cpu.pc (Bxns
 unfolding effect_of apply
 leaves device s v h e = does device s (Bxns 14) h ∙ ap (λ x. bxns device x s) e
 
+-- it hands over where Non-secure code begins in Non-secure memory
+hands_of : (device : Device) (s : State) (v : ℕ) → step_of device s ≡ bxns device v s → is_nonsecure v ≡ true → v % 2 ≡ 0 → step_of device s ≡ record { state = handed v s; what = what.Given (seen s.cpu v) }
+hands_of device s v e outside even = e ∙ bxns_hands device v s outside even
+
 even_nonsecure : (w : ℕ) → is_nonsecure w ≡ true → is_nonsecure (aligned 2 w) ≡ true
 even_nonsecure w h = grind (arith, nat_tests)
 
@@ -163,7 +167,7 @@ module _ (device : Device) (init base : ℕ) (start : Start) (bs : List ℕ) (wh
         comes = all.comes;
         ready = is_ready c.r0 c.r1 c.r3 c.flags;
         leaves = step;
-        hands = λ outside. step ∙ bxns_hands device v t6 (even_nonsecure (word_at start.ns_rom 4) outside) (aligned_even (word_at start.ns_rom 4));
+        hands = λ outside. hands_of device t6 v step (even_nonsecure (word_at start.ns_rom 4) outside) (aligned_even (word_at start.ns_rom 4));
       }
 
 pub begins : (init len base : ℕ) → len ≤ 49152 → base < 4294967296 → Begins (map Op (start_code init len base)) init len base
