@@ -14,12 +14,13 @@ use Rattle.v8m_core.specs.Values.{compared, condition_holds}
 use Rattle.v8m_core.specs.declared.effect.Effect.TheVariants as effect
 use Rattle.v8m_core.specs.declared.stepped.Stepped.TheVariants as what
 use Rattle.v8m_core.specs.Step.{Done, went, pass, put, stored, load_stop, store_stop, effect_of, apply, act, write_register}
-use Rattle.v8m_core.specs.Code.{HasCode, Comes, Does, past}
-use Rattle.v8m_core.proofs.Runs.{straight, comes_on, has_front}
+use Rattle.v8m_core.specs.Code.{HasCode, past}
+use Rattle.v8m_core.proofs.Runs.{has_front}
 use Rattle.v8m_laws.proofs.Flags.{condition_compares}
 use Rattle.v8m_laws.proofs.Paths.{jumps, passes, is_low}
 use Rattle.v8m_laws.proofs.Accesses.{loads, stores}
 use Rattle.stack_seal.specs.Code.{copy_code}
+use Rattle.stack_seal.proofs.Runs.{IsPlain, branch_plain, Runs, runs_straight, runs_on}
 use Rattle.stack_seal.proofs.Rows.{over, Stand, First, first}
 
 -- a state within the loop, where r0, r1, r3, the place, the flags and memory have changed
@@ -89,6 +90,31 @@ stores_byte device s o b at lt is small =
     writable_four false true z h = refl
     writable_four false false z h = cc
 
+-- none of them stacks anything
+plain_cmp : IsPlain (Cmp 1 2)
+unfolding effect_of
+plain_cmp c = refl
+
+plain_branch : IsPlain (Bc 0 20)
+unfolding effect_of
+plain_branch c = branch_plain (condition_holds 0 c.nzcvq) (add (c.pc + 4) 20) c
+
+plain_load : IsPlain (Ldrb 3 0 0)
+unfolding effect_of
+plain_load c = refl
+
+plain_store : IsPlain (Strb 3 1 0)
+unfolding effect_of
+plain_store c = refl
+
+plain_add : (d : ℕ) → IsPlain (Addw d d 1)
+unfolding effect_of
+plain_add d c = refl
+
+plain_back : IsPlain (B 0xFFFFFFE4)
+unfolding effect_of
+plain_back c = refl
+
 -- what is fixed while the loop runs
 pub record Loop (device : Device) (s : State) (end : ℕ) : Type 0 where
   pub code : HasCode device s.cpu.pc copy_code
@@ -100,7 +126,7 @@ loop_low device s end l = let low = is_low device s.cpu.pc (Cmp 1 2) l.code.0 in
 
 -- one turn, for a byte
 turn : (device : Device) (s : State) (end : ℕ) → Loop device s end → (p o b x f : ℕ) (m : Memory) → o < end → SECURE_ROM.from + p < SECURE_ROM.to → slice_index device.rom p ≡ b → b < 256
-    → Comes device 7 (turning s (SECURE_ROM.from + p) (SECURE_DATA.from + o) x s.cpu.pc f m) (turning s (SECURE_ROM.from + suc p) (SECURE_DATA.from + suc o) b s.cpu.pc (compared (SECURE_DATA.from + o) s.cpu.regs.r2 f) (with_ram m (slice_set m.secure_ram o b)))
+    → Runs device 7 (turning s (SECURE_ROM.from + p) (SECURE_DATA.from + o) x s.cpu.pc f m) (turning s (SECURE_ROM.from + suc p) (SECURE_DATA.from + suc o) b s.cpu.pc (compared (SECURE_DATA.from + o) s.cpu.regs.r2 f) (with_ram m (slice_set m.secure_ram o b)))
 unfolding size_of effect_of apply write_register
 turn device s end l p o b x f m more lt is small =
     let pc : ℕ = s.cpu.pc in
@@ -122,12 +148,13 @@ turn device s end l p o b x f m more lt is small =
     let a_next : add a 1 ≡ SECURE_ROM.from + suc p = omega arith in
     let d_next : add d 1 ≡ SECURE_DATA.from + suc o = omega arith in
     let back : add (pc + 4 + 4 + 4 + 4 + 4 + 4 + 4) 0xFFFFFFE4 ≡ pc = omega arith in
-    straight device copy_code (turning s a d x pc f m) (turning s (SECURE_ROM.from + suc p) (SECURE_DATA.from + suc o) b pc g k) l.code
+    runs_straight device copy_code (turning s a d x pc f m) (turning s (SECURE_ROM.from + suc p) (SECURE_DATA.from + suc o) b pc g k) l.code
     (s1, refl, refl, (s2, passes device 0 20 s1 stays, refl, (s3, loads_byte device s2 p b refl lt is small, refl, (s4, stores_byte device s3 o b refl (omega arith) refl small, refl, (s5, ap (λ v. went (put 4 0 v s4)) a_next, refl, (s6, ap (λ v. went (put 4 1 v s5)) d_next, refl, (_, ap (λ q. went (record s6 { cpu = record s6.cpu { pc = q } })) back, tt, refl)))))))
+    (plain_cmp, (plain_branch, (plain_load, (plain_store, (plain_add 0, (plain_add 1, (plain_back, tt)))))))
 
 -- the way out
 out : (device : Device) (s : State) (end : ℕ) → Loop device s end → (a x f : ℕ) (m : Memory)
-    → Comes device 2 (turning s a (SECURE_DATA.from + end) x s.cpu.pc f m) (turning s a (SECURE_DATA.from + end) x (past s.cpu.pc copy_code) (compared (SECURE_DATA.from + end) s.cpu.regs.r2 f) m)
+    → Runs device 2 (turning s a (SECURE_DATA.from + end) x s.cpu.pc f m) (turning s a (SECURE_DATA.from + end) x (past s.cpu.pc copy_code) (compared (SECURE_DATA.from + end) s.cpu.regs.r2 f) m)
 unfolding size_of effect_of apply
 out device s end l a x f m =
     let pc : ℕ = s.cpu.pc in
@@ -140,8 +167,9 @@ out device s end l a x f m =
     let leaves : condition_holds 0 g ≡ true = equal d s.cpu.regs.r2 f (omega arith) (omega arith) ∙ same in
     let s1 : State = turning s a d x (pc + 4) g m in
     let there : add (pc + 4 + 4) 20 ≡ past pc copy_code = omega arith in
-    straight device (Cmp 1 2 ∷ Bc 0 20 ∷ []) (turning s a d x pc f m) (turning s a d x (past pc copy_code) g m) (has_front device pc (Cmp 1 2 ∷ Bc 0 20 ∷ []) (Ldrb 3 0 0 ∷ Strb 3 1 0 ∷ Addw 0 0 1 ∷ Addw 1 1 1 ∷ B 0xFFFFFFE4 ∷ []) l.code)
+    runs_straight device (Cmp 1 2 ∷ Bc 0 20 ∷ []) (turning s a d x pc f m) (turning s a d x (past pc copy_code) g m) (has_front device pc (Cmp 1 2 ∷ Bc 0 20 ∷ []) (Ldrb 3 0 0 ∷ Strb 3 1 0 ∷ Addw 0 0 1 ∷ Addw 1 1 1 ∷ B 0xFFFFFFE4 ∷ []) l.code)
     (s1, refl, refl, (_, jumps device 0 20 s1 leaves ∙ ap (λ q. went (record s1 { cpu = record s1.cpu { pc = q } })) there, tt, refl))
+    (plain_cmp, (plain_branch, tt))
 
 -- from a turn on, the rest of the bytes is copied, and the loop is left
 pub record Copied (device : Device) (s from : State) (m : Memory) : Type 0 where
@@ -150,13 +178,13 @@ pub record Copied (device : Device) (s from : State) (m : Memory) : Type 0 where
   pub r1 : ℕ
   pub r3 : ℕ
   pub flags : ℕ
-  pub comes : Comes device steps from (turning s r0 r1 r3 (past s.cpu.pc copy_code) flags m)
+  pub runs : Runs device steps from (turning s r0 r1 r3 (past s.cpu.pc copy_code) flags m)
 
 pub copies : (device : Device) (s : State) (end : ℕ) → Loop device s end → (bs : List ℕ) (p o x f : ℕ) (m : Memory) → o + length bs ≡ end → SECURE_ROM.from + p + length bs ≤ SECURE_ROM.to → Stand device.rom p bs → All (λ b. b < 256) bs
     → Copied device s (turning s (SECURE_ROM.from + p) (SECURE_DATA.from + o) x s.cpu.pc f m) (with_ram m (over o bs m.secure_ram))
 copies device s end l [] p o x f m total lt stand bytes =
     let e : end ≡ o = omega arith in
-    record { steps = 2; r0 = SECURE_ROM.from + p; r1 = SECURE_DATA.from + end; r3 = x; flags = compared (SECURE_DATA.from + end) s.cpu.regs.r2 f; comes = subst (λ q. Comes device 2 (turning s (SECURE_ROM.from + p) (SECURE_DATA.from + q) x s.cpu.pc f m) (turning s (SECURE_ROM.from + p) (SECURE_DATA.from + end) x (past s.cpu.pc copy_code) (compared (SECURE_DATA.from + end) s.cpu.regs.r2 f) m)) e (out device s end l (SECURE_ROM.from + p) x f m) }
+    record { steps = 2; r0 = SECURE_ROM.from + p; r1 = SECURE_DATA.from + end; r3 = x; flags = compared (SECURE_DATA.from + end) s.cpu.regs.r2 f; runs = subst (λ q. Runs device 2 (turning s (SECURE_ROM.from + p) (SECURE_DATA.from + q) x s.cpu.pc f m) (turning s (SECURE_ROM.from + p) (SECURE_DATA.from + end) x (past s.cpu.pc copy_code) (compared (SECURE_DATA.from + end) s.cpu.regs.r2 f) m)) e (out device s end l (SECURE_ROM.from + p) x f m) }
 copies device s end l (b ∷ bs) p o x f m total lt stand bytes =
     let h = first device.rom p b bs stand in
     let small = All-head (λ b. b < 256) b bs bytes in
@@ -164,6 +192,6 @@ copies device s end l (b ∷ bs) p o x f m total lt stand bytes =
     let k : Memory = with_ram m (slice_set m.secure_ram o b) in
     let s0 : State = turning s (SECURE_ROM.from + p) (SECURE_DATA.from + o) x s.cpu.pc f m in
     let s1 : State = turning s (SECURE_ROM.from + suc p) (SECURE_DATA.from + suc o) b s.cpu.pc g k in
-    let one : Comes device 7 s0 s1 = turn device s end l p o b x f m (omega arith) (omega arith) h.here small in
+    let one : Runs device 7 s0 s1 = turn device s end l p o b x f m (omega arith) (omega arith) h.here small in
     let r = copies device s end l bs (suc p) (suc o) b g k (omega arith) (omega arith) h.rest (All-tail (λ b. b < 256) b bs bytes) in
-    record { steps = 7 + r.steps; r0 = r.r0; r1 = r.r1; r3 = r.r3; flags = r.flags; comes = comes_on device 7 r.steps s0 s1 (turning s r.r0 r.r1 r.r3 (past s.cpu.pc copy_code) r.flags (with_ram m (over (suc o) bs (slice_set m.secure_ram o b)))) one r.comes }
+    record { steps = 7 + r.steps; r0 = r.r0; r1 = r.r1; r3 = r.r3; flags = r.flags; runs = runs_on device 7 r.steps s0 s1 (turning s r.r0 r.r1 r.r3 (past s.cpu.pc copy_code) r.flags (with_ram m (over (suc o) bs (slice_set m.secure_ram o b)))) one r.runs }

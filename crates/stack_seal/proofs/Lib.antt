@@ -1,3 +1,4 @@
+pub mod Runs
 pub mod Rows
 pub mod Copy
 pub mod States

@@ -1,5 +1,5 @@
 -- The start code, piece by piece, from reset to its hand-over.
-use Rattle.std.proofs.Common.{◌≡◌, ℕ, ◌+◌, ◌-◌, ◌%◌, ◌≤◌, ◌<◌, List, [], ◌∷◌, ◌++◌, length, take, drop, refl, sym, ap, ◌∙◌, subst, true, arith, map, Some}
+use Rattle.std.proofs.Common.{◌≡◌, ℕ, suc, ◌+◌, ◌-◌, ◌%◌, ◌≤◌, ◌<◌, List, [], ◌∷◌, ◌++◌, length, take, drop, refl, sym, ap, ◌∙◌, subst, true, arith, map, Some}
 use Rattle.std.proofs.lemmas.Bool.Decides.{nat_tests}
 use Rattle.cm_base.specs.declared.regions.TheConstants.{SECURE_ROM, SECURE_DATA}
 use Rattle.v8m_isa.specs.declared.instr.Instr.{Instr}
@@ -17,7 +17,7 @@ use Rattle.v8m_core.specs.declared.stepped.Stepped.TheVariants as what
 use Rattle.v8m_core.specs.Step.{seen, handed, step_of, bxns, effect_of, apply}
 use Rattle.v8m_core.specs.Code.{Holds, HasCode, Comes, past}
 use Rattle.v8m_core.specs.Reset.{reset_of}
-use Rattle.v8m_core.proofs.Runs.{does, comes_on, has_front, has_back}
+use Rattle.v8m_core.proofs.Runs.{does, has_front, has_back}
 use Rattle.v8m_core.proofs.GateLaws.{word_at_lt, clear_bit_0, aligned_even, bxns_hands}
 use Rattle.asm_fix.specs.declared.asm.Asm.{Asm}
 use Rattle.asm_fix.specs.declared.asm.Asm.TheVariants.{Op}
@@ -25,6 +25,7 @@ use Rattle.asm_fix.specs.HasAsm.{HasAsm}
 use Rattle.ns_turns.specs.FirstHandOver.{BeginsOutside, HandsOverSealed}
 use Rattle.stack_seal.specs.Code.{number_code, stacks_code, range_code, copy_code, pointer_code, hand_code, start_code}
 use Rattle.stack_seal.specs.Begins.{HasContents, IsReady, HandsOver, Begins}
+use Rattle.stack_seal.proofs.Runs.{IsPlain, tells_on, Runs, runs_on}
 use Rattle.stack_seal.proofs.Rows.{over}
 use Rattle.stack_seal.proofs.Copy.{turning, with_ram, Copied, copies}
 use Rattle.stack_seal.proofs.States.{holding, sealed, ranging, pointing, handing}
@@ -39,18 +40,18 @@ code_of_list device at pc (i ∷ is) h = (h.0, code_of_list device at (pc + size
 -- steps that only go on, to a state, with the rest of the code there
 record Reaches (device : Device) (s t : State) (rest : List Instr) : Type 0 where
   steps : ℕ
-  comes : Comes device steps s t
+  runs : Runs device steps s t
   code : HasCode device t.cpu.pc rest
 
-reaches : (device : Device) (n : ℕ) (s t : State) (a rest : List Instr) → HasCode device s.cpu.pc (a ++ rest) → t.cpu.pc ≡ past s.cpu.pc a → (HasCode device s.cpu.pc a → Comes device n s t) → Reaches device s t rest
+reaches : (device : Device) (n : ℕ) (s t : State) (a rest : List Instr) → HasCode device s.cpu.pc (a ++ rest) → t.cpu.pc ≡ past s.cpu.pc a → (HasCode device s.cpu.pc a → Runs device n s t) → Reaches device s t rest
 reaches device n s t a rest has to runs = record {
   steps = n;
-  comes = runs (has_front device s.cpu.pc a rest has);
+  runs = runs (has_front device s.cpu.pc a rest has);
   code = subst (λ p. HasCode device p rest) (sym to) (has_back device s.cpu.pc a rest has);
 }
 
 reaches_on : (device : Device) (s t u : State) (a b : List Instr) → Reaches device s t a → Reaches device t u b → Reaches device s u b
-reaches_on device s t u a b p q = record { steps = p.steps + q.steps; comes = comes_on device p.steps q.steps s t u p.comes q.comes; code = q.code }
+reaches_on device s t u a b p q = record { steps = p.steps + q.steps; runs = runs_on device p.steps q.steps s t u p.runs q.runs; code = q.code }
 
 -- the copy, from where r0, r1 and r2 are set
 record CopyDone (device : Device) (s : State) (m : Memory) (rest : List Instr) : Type 0 where
@@ -77,7 +78,7 @@ copy_runs device init bs rest s from to end h few has =
       flags = c.flags;
       by = record {
         steps = c.steps;
-        comes = subst (λ x. Comes device c.steps x (turning s c.r0 c.r1 c.r3 (past s.cpu.pc copy_code) c.flags (with_ram s.memory (over 0 bs s.memory.secure_ram)))) same c.comes;
+        runs = subst (λ x. Runs device c.steps x (turning s c.r0 c.r1 c.r3 (past s.cpu.pc copy_code) c.flags (with_ram s.memory (over 0 bs s.memory.secure_ram)))) same c.runs;
         code = has_back device s.cpu.pc copy_code rest has;
       };
     }
@@ -93,6 +94,10 @@ hands_of device s v e outside even = e ∙ bxns_hands device v s outside even
 
 even_nonsecure : (w : ℕ) → is_nonsecure w ≡ true → is_nonsecure (aligned 2 w) ≡ true
 even_nonsecure w h = grind (arith, nat_tests)
+
+plain_bxns : IsPlain (Bxns 14)
+unfolding effect_of
+plain_bxns c = refl
 
 module _ (device : Device) (init base : ℕ) (start : Start) (bs : List ℕ) (whole : IsStart start) (stack : word_at device.rom 0 ≡ main_seal) (h : HasContents device init bs) (few : length bs ≤ 49152) (small : base < 4294967296) where
   abbrev s0 : State
@@ -164,9 +169,10 @@ module _ (device : Device) (init base : ℕ) (start : Start) (bs : List ℕ) (wh
       record {
         steps = all.steps;
         last = t6;
-        comes = all.comes;
+        comes = all.runs.comes;
         ready = is_ready c.r0 c.r1 c.r3 c.flags;
         leaves = step;
+        tells = λ k ts more. all.runs.tells (suc k) ts refl (tells_on device k ts t6 (Bxns 14) refl plain_bxns all.code.0 more);
         hands = λ outside. hands_of device t6 v step (even_nonsecure (word_at start.ns_rom 4) outside) (aligned_even (word_at start.ns_rom 4));
       }
 

@@ -1,10 +1,10 @@
 -- What start code does: from reset to its hand-over (DDI0553, Reset, BXNS).
-use Rattle.std.specs.Prelude.{◌≡◌, ◌≤◌, ◌<◌, ℕ, ◌+◌, ◌-◌, ◌++◌, List, length, take, drop, All, Some}
+use Rattle.std.specs.Prelude.{◌≡◌, ◌≤◌, ◌<◌, ℕ, suc, ◌+◌, ◌-◌, ◌++◌, List, length, take, drop, All, Some}
 use Rattle.cm_base.specs.declared.regions.TheConstants.{SECURE_ROM}
 use Rattle.ns_types.specs.declared.event.CEvent.TheVariants as c
 use Rattle.ns_types.specs.declared.state.Side.TheVariants.{Secure}
 use Rattle.ns_types.specs.declared.turn.Start.{Start}
-use Rattle.ns_types.specs.declared.turn.View.{View}
+use Rattle.ns_types.specs.Turns.{Turn}
 use Rattle.ns_types.specs.State.{Device, State}
 use Rattle.ns_types.specs.Platform.{row_size, aligned}
 use Rattle.ns_types.specs.Memory.{word_at, IsWhole, IsStart}
@@ -15,6 +15,7 @@ use Rattle.v8m_core.specs.Step.{seen, handed, step_of, bxns}
 use Rattle.v8m_core.specs.Code.{Comes}
 use Rattle.v8m_core.specs.Reset.{reset_of}
 use Rattle.ns_turns.specs.FirstHandOver.{secure_word, IsSealed, BeginsOutside}
+use Rattle.ns_turns.specs.Tells.{AllTell}
 use Rattle.asm_fix.specs.declared.asm.Asm.{Asm}
 use Rattle.asm_fix.specs.HasAsm.{HasAsm}
 
@@ -39,13 +40,14 @@ pub record IsReady (start : Start) (contents : List ℕ) (base : ℕ) (s : State
   pub view : view_of c.Started (start_mark start) ≡ Some (seen s.cpu (reset_address start))
 
 -- From reset, steps that only go on come to a BXNS to the reset address of Non-secure code, where all is ready. Where that address lies
--- in Non-secure memory, this is the first hand-over.
+-- in Non-secure memory, this is the first hand-over. Each instruction up to it tells what it writes into Non-secure RAM.
 pub record HandsOver (device : Device) (start : Start) (contents : List ℕ) (base : ℕ) : Type 0 where
   pub steps : ℕ
   pub last : State
   pub comes : Comes device steps (reset_of device start) last
   pub ready : IsReady start contents base last
   pub leaves : step_of device last ≡ bxns device (reset_address start) last
+  pub tells : (k : ℕ) (ts : List Turn) → AllTell device k ts (step_of device last).state → AllTell device (steps + suc k) ts (reset_of device start)
   pub hands : BeginsOutside start → step_of device last ≡ record { state = handed (reset_address start) last; what = what.Given (seen last.cpu (reset_address start)) }
 
 -- A list is start code for `len` bytes of initial contents at `init` and for a data stack that begins at `base`: where it stands at the
