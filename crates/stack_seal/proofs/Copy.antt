@@ -1,5 +1,5 @@
 -- The copy loop: as many turns as there are bytes, by induction over them.
-use Rattle.std.proofs.Common.{◌≡◌, ◌≢◌, ℕ, zero, suc, ◌+◌, ◌-◌, ◌%◌, ◌≤◌, ◌<◌, Bool, true, false, cond, List, [], ◌∷◌, ◌++◌, length, take, drop, refl, sym, ap, ◌∙◌, subst, arith, All, Some, None}
+use Rattle.std.proofs.Common.{◌≡◌, ◌≢◌, ℕ, suc, ◌+◌, ◌-◌, ◌%◌, ◌≤◌, ◌<◌, Bool, true, false, cond, List, [], ◌∷◌, length, refl, ap, ◌∙◌, subst, arith, All}
 use Rattle.std.specs.Prelude.{eqb, slice_index, slice_set, ◌||◌}
 use Rattle.std.proofs.lemmas.Bool.Decides.{nat_tests}
 use Rattle.std.proofs.lemmas.List.Elements.{All-head, All-tail}
@@ -7,13 +7,13 @@ use Rattle.cm_base.specs.declared.regions.TheConstants.{SECURE_ROM, SECURE_DATA}
 use Rattle.v8m_isa.specs.declared.instr.Instr.TheVariants.{Addw, Cmp, Ldrb, Strb, B, Bc}
 use Rattle.v8m_isa.specs.Table.{size_of}
 use Rattle.ns_types.specs.State.{Device, Memory, State}
-use Rattle.ns_types.specs.Platform.{row, in_row, lies_in, is_readable, is_writable}
+use Rattle.ns_types.specs.Platform.{in_row, lies_in, is_readable, is_writable}
 use Rattle.ns_types.specs.Memory.{byte_at, put_byte, load, store}
 use Rattle.ns_types.specs.Operators.{add, low_bytes}
 use Rattle.v8m_core.specs.Values.{compared, condition_holds}
 use Rattle.v8m_core.specs.declared.effect.Effect.TheVariants as effect
 use Rattle.v8m_core.specs.declared.stepped.Stepped.TheVariants as what
-use Rattle.v8m_core.specs.Step.{Done, went, pass, put, stored, load_stop, store_stop, effect_of, apply, act, write_register}
+use Rattle.v8m_core.specs.Step.{Done, went, pass, put, effect_of, apply, act, write_register}
 use Rattle.v8m_core.specs.Code.{HasCode, past}
 use Rattle.v8m_core.proofs.Runs.{has_front}
 use Rattle.v8m_laws.proofs.Flags.{condition_compares}
@@ -21,7 +21,7 @@ use Rattle.v8m_laws.proofs.Paths.{jumps, passes, is_low}
 use Rattle.v8m_laws.proofs.Accesses.{loads, stores}
 use Rattle.stack_seal.specs.Code.{copy_code}
 use Rattle.stack_seal.proofs.Runs.{IsPlain, branch_plain, Runs, runs_straight, runs_on}
-use Rattle.stack_seal.proofs.Rows.{over, Stand, First, first}
+use Rattle.stack_seal.proofs.Rows.{over, Stand, first}
 
 -- a state within the loop, where r0, r1, r3, the place, the flags and memory have changed
 abbrev pub turning : State → (r0 r1 r3 pc flags : ℕ) → Memory → State

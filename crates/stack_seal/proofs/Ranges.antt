@@ -5,13 +5,13 @@ use Rattle.std.specs.List.{AllByRecursion}
 use Rattle.std.proofs.lemmas.Bool.Decides.{nat_tests}
 use Rattle.std.proofs.lemmas.List.Elements.{All-from_recursion}
 use Rattle.v8m_isa.specs.declared.instr.Instr.{Instr}
-use Rattle.v8m_isa.specs.declared.instr.Instr.TheVariants.{Bxns, Movw, Movt, Str}
+use Rattle.v8m_isa.specs.declared.instr.Instr.TheVariants.{Bxns, Str}
 use Rattle.v8m_isa.specs.Bytes.{AllInRange}
 use Rattle.v8m_isa.specs.Table.{in_range_of, size_of, is_register}
 use Rattle.ns_types.specs.SecureRam.{data_start, data_pointer}
 use Rattle.asm_fix.specs.declared.asm.Asm.{Asm}
 use Rattle.asm_fix.specs.declared.asm.Asm.TheVariants.{Op}
-use Rattle.asm_fix.specs.Fixed.{bytes_in, is_in_range}
+use Rattle.asm_fix.specs.Fixed.{bytes_in, is_in_range, leads_once}
 use Rattle.stack_seal.specs.Code.{number_code, stacks_code, range_code, copy_code, pointer_code, hand_code, start_code}
 
 -- the test of the ranges, which computes
@@ -79,6 +79,15 @@ by_recursion (i ∷ is) h = (h.0, by_recursion is h.1)
 pub start_all : (init len base : ℕ) → init < 4294967296 → len ≤ 49152 → base < 4294967296 → All (λ a. IsTrue (is_in_range a)) (map Op (start_code init len base))
 start_all init len base small_init few small_base =
     All-from_recursion (λ a. IsTrue (is_in_range a)) (map Op (start_code init len base)) (by_recursion (start_code init len base) (start_ranges init len base small_init few small_base))
+
+-- no member jumps
+none_jump : (whole : List Asm) (is : List Instr) → AllByRecursion (λ a. IsTrue (leads_once whole a)) (map Op is)
+none_jump whole [] = tt
+none_jump whole (i ∷ is) = (refl, none_jump whole is)
+
+pub start_once : (init len base : ℕ) → All (λ a. IsTrue (leads_once (map Op (start_code init len base)) a)) (map Op (start_code init len base))
+start_once init len base =
+    All-from_recursion (λ a. IsTrue (leads_once (map Op (start_code init len base)) a)) (map Op (start_code init len base)) (none_jump (map Op (start_code init len base)) (start_code init len base))
 
 pub start_size : (init len base : ℕ) → bytes_in (map Op (start_code init len base)) ≡ 194
 unfolding size_of

@@ -1,22 +1,18 @@
 -- All is ready where the start code hands over.
-use Rattle.std.proofs.Common.{◌≡◌, ℕ, ◌+◌, ◌-◌, ◌≤◌, ◌<◌, List, [], ◌∷◌, ◌++◌, length, take, drop, refl, sym, ap, ◌∙◌, subst, inl, inr, arith, Some}
+use Rattle.std.proofs.Common.{◌≡◌, ℕ, ◌+◌, ◌≤◌, ◌<◌, List, [], ◌∷◌, ◌++◌, length, take, drop, refl, sym, ap, ◌∙◌, subst, inl, inr, arith, Some}
 use Rattle.std.specs.Prelude.{bit_and}
-use Rattle.cm_base.specs.declared.regions.TheConstants.{SECURE_DATA}
 use Rattle.ns_types.specs.declared.turn.Start.{Start}
 use Rattle.ns_types.specs.declared.turn.View.{View}
 use Rattle.ns_types.specs.declared.event.CEvent.TheVariants as c
-use Rattle.ns_types.specs.State.{Device, Memory, State}
+use Rattle.ns_types.specs.State.{Memory, State}
 use Rattle.ns_types.specs.Platform.{row_size, aligned}
-use Rattle.ns_types.specs.Memory.{word_at, put_word, store, secure_ram_size, IsWhole, IsStart}
+use Rattle.ns_types.specs.Memory.{word_at, put_word, store, secure_ram_size, IsWhole}
 use Rattle.ns_types.specs.SecureRam.{main_limit, main_seal, process_limit, process_seal, data_pointer, seal_word, ram_place}
 use Rattle.ns_types.specs.Boundary.{view_of, reset_address, start_mark}
-use Rattle.v8m_core.specs.Step.{seen}
-use Rattle.v8m_core.specs.Reset.{reset_of}
 use Rattle.v8m_core.proofs.GateLaws.{word_at_lt, clear_bit_0}
 use Rattle.v8m_core.proofs.Words.{same_word, other_word, length-put_word}
 use Rattle.v8m_laws.proofs.Numbers.{front_kept}
 use Rattle.ns_turns.specs.FirstHandOver.{IsSealed}
-use Rattle.stack_seal.specs.Begins.{IsReady}
 use Rattle.stack_seal.proofs.Rows.{over, length-over, word_behind, front_is}
 use Rattle.stack_seal.proofs.Copy.{with_ram}
 

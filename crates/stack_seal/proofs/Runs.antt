@@ -1,5 +1,5 @@
 -- Runs of code that only go on, each of whose instructions tells what it writes into Non-secure RAM.
-use Rattle.std.proofs.Common.{◌≡◌, ℕ, zero, suc, ◌+◌, Bool, true, false, cond, List, [], ◌∷◌, length, refl, sym, ap, ◌∙◌, subst, arith}
+use Rattle.std.proofs.Common.{◌≡◌, ℕ, suc, ◌+◌, Bool, true, false, cond, List, [], ◌∷◌, length, refl, sym, ap, ◌∙◌, subst, arith}
 use Rattle.v8m_isa.specs.declared.instr.Instr.{Instr}
 use Rattle.v8m_isa.specs.Table.{size_of}
 use Rattle.ns_types.specs.declared.state.Cpu.{Cpu}
@@ -9,7 +9,7 @@ use Rattle.ns_types.specs.State.{Device, State}
 use Rattle.v8m_core.specs.declared.effect.Effect.TheVariants as effect
 use Rattle.v8m_core.specs.Step.{Done, went, effect_of, step_of, turn_of}
 use Rattle.v8m_core.specs.Code.{Holds, HasCode, Comes, Does}
-use Rattle.v8m_core.proofs.Runs.{does, stays, straight, comes_on}
+use Rattle.v8m_core.proofs.Runs.{does, stays, comes_on}
 use Rattle.ns_turns.specs.Run.{next_of}
 use Rattle.ns_turns.specs.Tells.{is_write, Tells, stacks_outside, AllTell}
 use Rattle.ns_turns.proofs.Tell.{told_apply}

@@ -1,25 +1,22 @@
 -- The start code, piece by piece, from reset to its hand-over.
-use Rattle.std.proofs.Common.{◌≡◌, ℕ, suc, ◌+◌, ◌-◌, ◌%◌, ◌≤◌, ◌<◌, List, [], ◌∷◌, ◌++◌, length, take, drop, refl, sym, ap, ◌∙◌, subst, true, arith, map, Some}
+use Rattle.std.proofs.Common.{◌≡◌, ℕ, suc, ◌+◌, ◌-◌, ◌%◌, ◌≤◌, ◌<◌, List, [], ◌∷◌, ◌++◌, length, refl, sym, ap, ◌∙◌, subst, true, arith, map}
 use Rattle.std.proofs.lemmas.Bool.Decides.{nat_tests}
 use Rattle.cm_base.specs.declared.regions.TheConstants.{SECURE_ROM, SECURE_DATA}
 use Rattle.v8m_isa.specs.declared.instr.Instr.{Instr}
 use Rattle.v8m_isa.specs.declared.instr.Instr.TheVariants.{Bxns}
 use Rattle.v8m_isa.specs.Table.{size_of}
 use Rattle.ns_types.specs.declared.turn.Start.{Start}
-use Rattle.ns_types.specs.declared.turn.View.{View}
-use Rattle.ns_types.specs.declared.event.CEvent.TheVariants as c
 use Rattle.ns_types.specs.State.{Device, Memory, State}
 use Rattle.ns_types.specs.Platform.{is_nonsecure, aligned}
 use Rattle.ns_types.specs.Memory.{word_at, IsStart, memory_of}
 use Rattle.ns_types.specs.SecureRam.{main_seal}
-use Rattle.ns_types.specs.Boundary.{view_of, reset_address, start_mark}
+use Rattle.ns_types.specs.Boundary.{reset_address}
 use Rattle.v8m_core.specs.declared.stepped.Stepped.TheVariants as what
 use Rattle.v8m_core.specs.Step.{seen, handed, step_of, bxns, effect_of, apply}
-use Rattle.v8m_core.specs.Code.{Holds, HasCode, Comes, past}
+use Rattle.v8m_core.specs.Code.{Holds, HasCode, past}
 use Rattle.v8m_core.specs.Reset.{reset_of}
 use Rattle.v8m_core.proofs.Runs.{does, has_front, has_back}
-use Rattle.v8m_core.proofs.GateLaws.{word_at_lt, clear_bit_0, aligned_even, bxns_hands}
-use Rattle.asm_fix.specs.declared.asm.Asm.{Asm}
+use Rattle.v8m_core.proofs.GateLaws.{aligned_even, bxns_hands}
 use Rattle.asm_fix.specs.declared.asm.Asm.TheVariants.{Op}
 use Rattle.asm_fix.specs.HasAsm.{HasAsm}
 use Rattle.ns_turns.specs.FirstHandOver.{BeginsOutside, HandsOverSealed}
@@ -27,7 +24,7 @@ use Rattle.stack_seal.specs.Code.{number_code, stacks_code, range_code, copy_cod
 use Rattle.stack_seal.specs.Begins.{HasContents, IsReady, HandsOver, Begins}
 use Rattle.stack_seal.proofs.Runs.{IsPlain, tells_on, Runs, runs_on}
 use Rattle.stack_seal.proofs.Rows.{over}
-use Rattle.stack_seal.proofs.Copy.{turning, with_ram, Copied, copies}
+use Rattle.stack_seal.proofs.Copy.{turning, with_ram, copies}
 use Rattle.stack_seal.proofs.States.{holding, sealed, ranging, pointing, handing}
 use Rattle.stack_seal.proofs.Pieces.{hold_runs, seal_runs, range_runs, point_runs, hand_runs}
 use Rattle.stack_seal.proofs.Ready as ready

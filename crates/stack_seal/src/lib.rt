@@ -6,7 +6,7 @@ pub mod laws;
 
 ghost use Rattle.std.specs.Prelude.{◌≡◌, ◌≤◌, ◌++◌, map, IsTrue, IfOk, OnOk, All};
 ghost use Rattle.asm_fix.specs.declared.asm.Asm.TheVariants.{Op};
-ghost use Rattle.asm_fix.specs.Fixed.{bytes_in, is_in_range};
+ghost use Rattle.asm_fix.specs.Fixed.{bytes_in, is_in_range, leads_once};
 ghost use Rattle.stack_seal.specs.Code.{start_code};
 ghost use Rattle.stack_seal.specs.Begins.{Begins};
 
@@ -29,6 +29,7 @@ pub fn start_asm(
     requires { init_len ≤ 49152 }
     ensures code { IfOk result (λ l. l ≡ map Op (start_code init init_len stack_base)) }
     ensures range { IfOk result (λ l. All (λ a. IsTrue (is_in_range a)) l) }
+    ensures once { IfOk result (λ l. All (λ a. IsTrue (leads_once l a)) l) }
     ensures size { IfOk result (λ l. bytes_in l ≤ 2048) }
     ensures begins { IfOk result (λ l. Begins l init init_len stack_base) }
 {

@@ -1,4 +1,3 @@
-use Rattle.std.proofs.Common.{arith}
 use Rattle.stack_seal.proofs.Whole.{begins, sealed_after}
 use Rattle.stack_seal.proofs.laws.start.Goals as goal
 
