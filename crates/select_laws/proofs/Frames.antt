@@ -45,7 +45,7 @@ frame_place sp i even from to =
 pub frame_is : (sp words i : ℕ) → IsFrame sp words → i < words → IsFrameWord (sp + 4 * i)
 frame_is sp words i f lt = frame_place sp i f.even f.from (let to = f.to in omega arith)
 
-at_is : (sp words i : ℕ) → IsFrame sp words → i < words → add sp (4 * i) ≡ sp + 4 * i
+pub at_is : (sp words i : ℕ) → IsFrame sp words → i < words → add sp (4 * i) ≡ sp + 4 * i
 at_is sp words i f lt = let to = f.to in omega arith
 
 -- LDR of a word of the frame

@@ -1,3 +1,4 @@
 pub mod Frames
+pub mod Narrow
 pub mod Ends
 pub mod Quotients
