@@ -17,7 +17,7 @@ use Rattle.v8m_core.specs.Code.{HasCode, past}
 use Rattle.v8m_core.proofs.Ram.{whole_store}
 use Rattle.v8m_laws.specs.Path.{Path, Leads, left_of}
 use Rattle.v8m_laws.proofs.Paths.{goes, path_on, path_stops, comes_leads}
-use Rattle.select_laws.specs.Stands.{frame_word, value_of, Stands, IsFrame, IsReady, IsFramed}
+use Rattle.select_laws.specs.Stands.{frame_word, value_of, word_at, Stands, IsFrame, IsReady, IsFramed}
 use Rattle.select_laws.specs.Meets.{Keeps, Meets, Sets, Reads, assigned}
 use Rattle.select_laws.proofs.Frames.{reads, writes, word_other, value_is, stands_set}
 
@@ -50,10 +50,10 @@ scratch_kept c r0 r1 r2 pc f (suc (suc (suc (suc (suc (suc (suc (suc (suc (suc (
 scratch_kept c r0 r1 r2 pc f (suc (suc (suc (suc (suc (suc (suc (suc (suc (suc (suc (suc (suc (suc n)))))))))))))) le = refl
 
 -- code whose last instruction writes a variable's place
-pub set_meets : (device : Device) (s : State) (places : List Where) (live live2 : List ℕ) (vs : Vars) (m : Memory) (v x words top : ℕ) (k r0 r1 r2 pc f : ℕ) (ks : List ℕ) (code : List Instr) → IsReady s words → (are : Sets places live live2 words v) → Stands s places live vs m top → x < 4294967296
-    → HasCode device s.cpu.pc code → Path device (k ∷ ks) code s (set_state s are.placed.word x r0 r1 r2 pc f) → Meets device s places live2 words pc top (slice_get places v) (assigned v vs m (Ok x))
+pub set_meets : (device : Device) (s : State) (places : List Where) (live live2 : List ℕ) (vs : Vars) (m : Memory) (v x words top : ℕ) (k r0 r1 r2 pc f : ℕ) (ks : List ℕ) (code : List Instr) → IsReady s words → Sets places live live2 words v → Stands s places live vs m top → x < 4294967296
+    → HasCode device s.cpu.pc code → Path device (k ∷ ks) code s (set_state s (word_at places v) x r0 r1 r2 pc f) → Meets device s places live2 words pc top (slice_get places v) (assigned v vs m (Ok x))
 set_meets device s places live live2 vs m v x words top k r0 r1 r2 pc f ks code ready are h small has path =
-    let i = are.placed.word in
+    let i = word_at places v in
     let t = set_state s i x r0 r1 r2 pc f in
     (went t, comes_leads device (length ks) s t (goes device (k ∷ ks) code s t has path.by).comes, record {
       step = refl;
@@ -73,5 +73,5 @@ pub stop_meets : (device : Device) (ks : List ℕ) (code rest : List Instr) (i :
 stop_meets device ks code rest i s t e path has = (t, path_stops device ks code rest i s t e path has)
 
 -- a variable that is read has a word
-pub read_is : (s : State) (places : List Where) (live : List ℕ) (vs : Vars) (m : Memory) (v words top : ℕ) (r : Reads places live words v) → Stands s places live vs m top → frame_word s r.placed.word ≡ vs v
+pub read_is : (s : State) (places : List Where) (live : List ℕ) (vs : Vars) (m : Memory) (v words top : ℕ) Reads places live words v → Stands s places live vs m top → frame_word s (word_at places v) ≡ vs v
 read_is s places live vs m v words top r h = sym (value_is s places words v r.placed) ∙ h.vars v r.is_live

@@ -22,7 +22,7 @@ use Rattle.v8m_core.proofs.Ram.{load_same, load_other, readable_where_writable, 
 use Rattle.v8m_core.proofs.StackLaws.{IsWordPlace, word_writable}
 use Rattle.v8m_laws.specs.Rows.{SameRows}
 use Rattle.v8m_laws.proofs.Accesses.{any_device, control_rows, same_rows_on, loads, stores}
-use Rattle.select_laws.specs.Stands.{word_in, frame_word, value_of, Stands, IsFrame, IsFramed}
+use Rattle.select_laws.specs.Stands.{word_in, frame_word, at_place, value_of, word_at, Stands, IsFrame, IsFramed}
 use Rattle.select_laws.specs.Meets.{Sets}
 
 -- where a word of the frame stands
@@ -96,21 +96,27 @@ pub below : (sp words i : ℕ) → IsFrame sp words → i < words → sp + 4 * i
 below sp words i f lt = let to = f.to in omega arith
 
 -- what stands at the place of a variable that has a word
-pub value_is : (s : State) (places : List Where) (words v : ℕ) (p : IsFramed places words v) → value_of s places v ≡ frame_word s p.word
-value_is s places words v p = rw p.place refl
+pub value_is : (s : State) (places : List Where) (words v : ℕ) → IsFramed places words v → value_of s places v ≡ frame_word s (word_at places v)
+value_is s places words v p = ap (at_place s) p.place
 
 -- variables that share no place have different words
-pub words_differ : (places : List Where) (words u v : ℕ) (p : IsFramed places words u) (q : IsFramed places words v) → shares places u v ≡ false → p.word ≢ q.word
+pub words_differ : (places : List Where) (words u v : ℕ) → IsFramed places words u → IsFramed places words v → shares places u v ≡ false → word_at places u ≢ word_at places v
 words_differ places words u v p q h =
-    let e : eqb p.word q.word ≡ false = ap (λ o. share o (slice_get places v)) (sym p.place) in
-    λ same. grind (arith, nat_tests)
+    differ (sym (ap (λ o. share o (slice_get places v)) p.place ∙ ap (share (Some (Frame (word_at places u)))) q.place) ∙ h)
+  where
+    differ : {i j : ℕ} → eqb i j ≡ false → i ≢ j
+    differ e same = grind (arith, nat_tests)
+
+put_same : (vs : Vars) (v x : ℕ) → put vs v x v ≡ x
+put_same vs v x = let e : eqb v v ≡ true = grind (arith, nat_tests) in rw e refl
+
+put_other : (vs : Vars) (v x u : ℕ) → u ≢ v → put vs v x u ≡ vs u
+put_other vs v x u ne = let e : eqb u v ≡ false = grind (arith, nat_tests) in rw e refl
 
 -- after the place of a variable was written
-pub stands_set : (s t : State) (places : List Where) (live live2 : List ℕ) (vs : Vars) (m : Memory) (v x words top : ℕ) (are : Sets places live live2 words v) → IsWhole s.memory → IsFrame s.cpu.regs.sp words → t.cpu.regs.sp ≡ s.cpu.regs.sp
-    → t.memory ≡ store 4 (s.cpu.regs.sp + 4 * are.placed.word) x s.memory → x < 4294967296 → Stands s places live vs m top → Stands t places live2 (put vs v x) m top
+pub stands_set : (s t : State) (places : List Where) (live live2 : List ℕ) (vs : Vars) (m : Memory) (v x words top : ℕ) → Sets places live live2 words v → IsWhole s.memory → IsFrame s.cpu.regs.sp words → t.cpu.regs.sp ≡ s.cpu.regs.sp
+    → t.memory ≡ store 4 (s.cpu.regs.sp + 4 * word_at places v) x s.memory → x < 4294967296 → Stands s places live vs m top → Stands t places live2 (put vs v x) m top
 stands_set s t places live live2 vs m v x words top are whole f sp mem small h =
-    let i = are.placed.word in
-    let lt = are.placed.lt in
     let w = frame_is s.cpu.regs.sp words i f lt in
     record {
       rows = subst (λ y. SameRows y m) (sym mem) (same_rows_on _ s.memory m (control_rows 4 (s.cpu.regs.sp + 4 * i) x s.memory (inr (inr refl)) w.can w.from) h.rows);
@@ -118,22 +124,23 @@ stands_set s t places live live2 vs m v x words top are whole f sp mem small h =
       vars = λ u live_u. ⊎_elim (here u) (λ ne. there u ne (are.others u live_u ne)) (cases_eq u v);
     }
   where
-    at : (j : ℕ) → frame_word t j ≡ word_in (store 4 (s.cpu.regs.sp + 4 * are.placed.word) x s.memory) (s.cpu.regs.sp + 4 * j)
+    i : ℕ
+    i = word_at places v
+
+    lt : i < words
+    lt = are.placed.lt
+
+    at : (j : ℕ) → frame_word t j ≡ word_in (store 4 (s.cpu.regs.sp + 4 * i) x s.memory) (s.cpu.regs.sp + 4 * j)
     at j = ap (λ p. word_in t.memory (p + 4 * j)) sp ∙ ap (λ y. word_in y (s.cpu.regs.sp + 4 * j)) mem
 
     here : (u : ℕ) → u ≡ v → value_of t places u ≡ put vs v x u
     here u e =
         subst (λ k. value_of t places k ≡ put vs v x k) (sym e)
-        (value_is t places words v are.placed ∙ at are.placed.word ∙ word_same are.placed.word words x s.cpu.regs.sp s.memory whole f are.placed.lt small ∙ sym (put_same v))
-      where
-        put_same : (v : ℕ) → put vs v x v ≡ x
-        put_same v = let e : eqb v v ≡ true = grind (arith, nat_tests) in rw e refl
+        (value_is t places words v are.placed ∙ at i ∙ word_same i words x s.cpu.regs.sp s.memory whole f lt small ∙ sym (put_same vs v x))
 
     there : (u : ℕ) → u ≢ v → Contains live u × (shares places u v ≡ false) × IsFramed places words u → value_of t places u ≡ put vs v x u
     there u ne k =
-        value_is t places words u k.2 ∙ at k.2.word
-        ∙ word_other are.placed.word k.2.word words x s.cpu.regs.sp s.memory f are.placed.lt (below s.cpu.regs.sp words k.2.word f k.2.lt) (words_differ places words u v k.2 are.placed k.1)
-        ∙ sym (value_is s places words u k.2) ∙ h.vars u k.0 ∙ sym (put_other u ne)
-      where
-        put_other : (u : ℕ) → u ≢ v → put vs v x u ≡ vs u
-        put_other u ne = let e : eqb u v ≡ false = grind (arith, nat_tests) in rw e refl
+        let j = word_at places u in
+        value_is t places words u k.2 ∙ at j
+        ∙ word_other i j words x s.cpu.regs.sp s.memory f lt (below s.cpu.regs.sp words j f k.2.lt) (words_differ places words u v k.2 are.placed k.1)
+        ∙ sym (value_is s places words u k.2) ∙ h.vars u k.0 ∙ sym (put_other vs v x u ne)

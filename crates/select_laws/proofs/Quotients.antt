@@ -56,6 +56,9 @@ pub eq_is : (a b : ℕ) → a < 4294967296 → b < 4294967296 → quotient 1 (ad
 eq_is a b lt_a lt_b = next_by (subtract a b) (subtract_lt a b) ∙ ap truth (difference a b lt_a lt_b)
 
 -- a number by one more than another
+positive : (q : ℕ) → 1 ≤ q → eqb q 0 ≡ false
+positive q le = grind (arith, nat_tests)
+
 over : (a b : ℕ) → a < 4294967296 → b < 4294967296 → eqb (quotient b (add a 1)) 0 ≡ not (ltb a b)
 unfolding quotient
 over a b lt_a lt_b = by_tests (ltb a b) (eqb a 4294967295) refl refl
@@ -78,9 +81,6 @@ over a b lt_a lt_b = by_tests (ltb a b) (eqb a 4294967295) refl refl
         let lt : b < a + 1 = grind (arith, nat_tests) in
         let none : b / (a + 1) ≡ 0 = div-eq_of_lt lt in
         rw (is, ne, none) refl
-
-    positive : (q : ℕ) → 1 ≤ q → eqb q 0 ≡ false
-    positive q le = grind (arith, nat_tests)
 
 pub less_is : (a b : ℕ) → a < 4294967296 → b < 4294967296 → quotient (quotient b (add a 1)) (quotient b (add a 1)) ≡ less_unsigned a b
 less_is a b lt_a lt_b = by_itself (quotient b (add a 1)) ∙ ap (λ t. truth (not t)) (over a b lt_a lt_b) ∙ twice (ltb a b)

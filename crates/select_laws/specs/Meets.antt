@@ -1,5 +1,5 @@
 -- What the code of a statement does.
-use Rattle.std.specs.Prelude.{◌≡◌, ◌≢◌, ℕ, ◌+◌, ◌*◌, ◌≤◌, List, [], ◌∷◌, slice_get, Option, Some, Result, Ok, Err}
+use Rattle.std.specs.Prelude.{◌≡◌, ◌≢◌, ℕ, ◌+◌, ◌*◌, ◌≤◌, false, List, [], ◌∷◌, slice_get, Option, Some, Result, Ok, Err}
 use Rattle.std.specs.List.{Contains}
 use Rattle.cm_base.specs.declared.regions.TheConstants.{PROCESS_LIMIT}
 use Rattle.cm_base.specs.declared.stop.Stop.{Stop}

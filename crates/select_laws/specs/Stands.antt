@@ -1,5 +1,5 @@
 -- How a state of the machine stands for variables and memory of the middle form.
-use Rattle.std.specs.Prelude.{◌≡◌, ℕ, ◌+◌, ◌*◌, ◌%◌, ◌<◌, ◌≤◌, List, slice_get, Option, Some, None}
+use Rattle.std.specs.Prelude.{◌≡◌, ℕ, ◌+◌, ◌*◌, ◌%◌, ◌<◌, ◌≤◌, List, [], slice_get, Option, Some, None}
 use Rattle.std.specs.List.{Contains}
 use Rattle.cm_base.specs.declared.regions.TheConstants.{SECURE_CONTROL, MAIN_SEAL, DATA_POINTER}
 use Rattle.ns_types.specs.declared.state.Side.TheVariants.{Secure}
@@ -47,8 +47,16 @@ pub record IsReady (s : State) (words : ℕ) : Type 0 where
   pub whole : IsWhole s.memory
   pub frame : IsFrame s.cpu.regs.sp words
 
+-- the word of the frame that is a place, and that of a variable
+abbrev pub word_of : Option Where → ℕ
+word_of None = 0
+word_of (Some (Register r)) = 0
+word_of (Some (Frame i)) = i
+
+abbrev pub word_at : List Where → ℕ → ℕ
+word_at places v = word_of (slice_get places v)
+
 -- a variable has a word of a frame
 pub record IsFramed (places : List Where) (words v : ℕ) : Type 0 where
-  pub word : ℕ
-  pub place : slice_get places v ≡ Some (Frame word)
-  pub lt : word < words
+  pub place : slice_get places v ≡ Some (Frame (word_at places v))
+  pub lt : word_at places v < words

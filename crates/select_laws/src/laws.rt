@@ -10,7 +10,7 @@ ghost use Rattle.live.specs.declared.places.Where.{Where};
 ghost use Rattle.v8m_core.specs.Values.{quotient};
 ghost use Rattle.v8m_core.specs.Step as step;
 ghost use Rattle.v8m_core.specs.Step.{went, act};
-ghost use Rattle.select_laws.specs.Stands.{frame_word, Stands, IsFrame};
+ghost use Rattle.select_laws.specs.Stands.{frame_word, word_at, Stands, IsFrame};
 ghost use Rattle.select_laws.specs.Meets.{Sets};
 
 /// UDIV by 0 gives 0, so quotients tell whether words are equal, and which is less.
@@ -34,7 +34,7 @@ pub fn narrow_reads()
 
 /// Where the word of a variable is written, the state stands for the variables with this one set.
 pub fn frames()
-    ensures { (s t : State) (places : List Where) (live live2 : List ℕ) (vs : Vars) (m : Memory) (v x words top : ℕ) (are : Sets places live live2 words v) →
+    ensures { (s t : State) (places : List Where) (live live2 : List ℕ) (vs : Vars) (m : Memory) (v x words top : ℕ) Sets places live live2 words v →
         IsWhole s.memory → IsFrame s.cpu.regs.sp words → t.cpu.regs.sp ≡ s.cpu.regs.sp →
-        t.memory ≡ store 4 (s.cpu.regs.sp + 4 * are.placed.word) x s.memory → x < 2 ^ 32 → Stands s places live vs m top → Stands t places live2 (put vs v x) m top }
+        t.memory ≡ store 4 (s.cpu.regs.sp + 4 * word_at places v) x s.memory → x < 2 ^ 32 → Stands s places live vs m top → Stands t places live2 (put vs v x) m top }
 {}
