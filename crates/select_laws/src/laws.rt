@@ -34,7 +34,7 @@ pub fn narrow_reads()
 
 /// Where the word of a variable is written, the state stands for the variables with this one set.
 pub fn frames()
-    ensures { (s t : State) (places : List Where) (live live2 : List ℕ) (vs : Vars) (m : Memory) (v x words top : ℕ) Sets places live live2 words v →
+    ensures { (s t : State) (places : List Where) (live live2 : List ℕ) (vs : Vars) (m : Memory) (v x words top : ℕ) → Sets places live live2 words v →
         IsWhole s.memory → IsFrame s.cpu.regs.sp words → t.cpu.regs.sp ≡ s.cpu.regs.sp →
         t.memory ≡ store 4 (s.cpu.regs.sp + 4 * word_at places v) x s.memory → x < 2 ^ 32 → Stands s places live vs m top → Stands t places live2 (put vs v x) m top }
 {}
