@@ -4,6 +4,7 @@ use Rattle.std.specs.Prelude.{ltb, cond, ◌&&◌, IsTrue, All, map, slice_get}
 use Rattle.std.specs.List.{list_all}
 use Rattle.std.proofs.lemmas.Bool.Decides.{nat_tests}
 use Rattle.std.proofs.lemmas.Bool.{and_parts}
+use Rattle.std.proofs.lemmas.List.Elements.{All-nil, All-cons}
 use Rattle.std.proofs.lemmas.List.Folds.{list_all-append}
 use Rattle.v8m_isa.specs.declared.instr.Instr.{Instr}
 use Rattle.v8m_isa.specs.declared.instr.Instr.TheVariants.{Movw, Movt}
@@ -40,8 +41,8 @@ upper n lt = grind (arith, nat_tests)
 
 -- instructions in range, as members of code
 pub all_of : (code : List Instr) → list_all in_range_of code ≡ true → All (λ a. IsTrue (is_in_range a)) (map asm.Op code)
-all_of [] e = tt
-all_of (i ∷ code) e = let p = and_parts (in_range_of i) (list_all in_range_of code) e in (p.0, all_of code p.1)
+all_of [] e = All-nil (λ a. IsTrue (is_in_range a))
+all_of (i ∷ code) e = let p = and_parts (in_range_of i) (list_all in_range_of code) e in All-cons (λ a. IsTrue (is_in_range a)) (asm.Op i) (map asm.Op code) p.0 (all_of code p.1)
 
 put_range : (i : ℕ) → i < 904 → list_all in_range_of (put_out 0 i ∷ []) ≡ true
 unfolding in_range_of
