@@ -73,5 +73,5 @@ pub stop_meets : (device : Device) (ks : List ℕ) (code rest : List Instr) (i :
 stop_meets device ks code rest i s t e path has = (t, path_stops device ks code rest i s t e path has)
 
 -- a variable that is read has a word
-pub read_is : (s : State) (places : List Where) (live : List ℕ) (vs : Vars) (m : Memory) (v words top : ℕ) Reads places live words v → Stands s places live vs m top → frame_word s (word_at places v) ≡ vs v
+pub read_is : (s : State) (places : List Where) (live : List ℕ) (vs : Vars) (m : Memory) (v words top : ℕ) → Reads places live words v → Stands s places live vs m top → frame_word s (word_at places v) ≡ vs v
 read_is s places live vs m v words top r h = sym (value_is s places words v r.placed) ∙ h.vars v r.is_live
