@@ -94,8 +94,8 @@ binary_works o binary device s places live live2 vs m v a b words top g reads =
     let j = word_at places a in
     let k = word_at places b in
     let all : (u : ℕ) → Contains (a ∷ b ∷ []) u → Reads places live words u = subst (λ us. (u : ℕ) → Contains us u → Reads places live words u) (two_operands o a b binary) reads in
-    let ra = all a (inl refl) in
-    let rb = all b (inr (inl refl)) in
+    let ra = all a (0, omega arith, refl) in
+    let rb = all b (1, omega arith, refl) in
     subst (λ t. HasCode device s.cpu.pc (t ++ operation o ++ put_out 0 i ∷ []) → Meets device s places live2 words (past s.cpu.pc (t ++ operation o ++ put_out 0 i ∷ [])) top (slice_get places v) (assigned v vs m (applied o (vs a) (vs b))))
     (sym (two_taken o j k binary))
     (λ has. subst (λ r. Meets device s places live2 words (past (s.cpu.pc + 4 + 4) (operation o ++ put_out 0 i ∷ [])) top (slice_get places v) (assigned v vs m r))
@@ -127,14 +127,14 @@ low_lt n x lt = omega (arith, mod-le x (256 ^ n), lt)
 pub set_works : SetWorks
 unfolding size_of
 set_works device s places live live2 vs m v op.Copy a b words top ready are reads h has =
-    unary_works device s places live live2 vs m v a words top _ (λ x. x) (record { ready = ready; sets = are; stands = h }) (reads a (inl refl)) (λ x lt. lt) refl (reads_word device 0 (word_at places a) words s ready.frame) has
+    unary_works device s places live live2 vs m v a words top _ (λ x. x) (record { ready = ready; sets = are; stands = h }) (reads a (0, omega arith, refl)) (λ x lt. lt) refl (reads_word device 0 (word_at places a) words s ready.frame) has
 set_works device s places live live2 vs m v op.Sext8 a b words top ready are reads h has =
-    unary_works device s places live live2 vs m v a words top _ (to_signed 1) (record { ready = ready; sets = are; stands = h }) (reads a (inl refl)) (to_signed_lt 1) refl (reads_sext8 device 0 (word_at places a) words s ready.frame) has
+    unary_works device s places live live2 vs m v a words top _ (to_signed 1) (record { ready = ready; sets = are; stands = h }) (reads a (0, omega arith, refl)) (to_signed_lt 1) refl (reads_sext8 device 0 (word_at places a) words s ready.frame) has
 set_works device s places live live2 vs m v op.Sext16 a b words top ready are reads h has =
-    unary_works device s places live live2 vs m v a words top _ (to_signed 2) (record { ready = ready; sets = are; stands = h }) (reads a (inl refl)) (to_signed_lt 2) refl (reads_sext16 device 0 (word_at places a) words s ready.frame) has
+    unary_works device s places live live2 vs m v a words top _ (to_signed 2) (record { ready = ready; sets = are; stands = h }) (reads a (0, omega arith, refl)) (to_signed_lt 2) refl (reads_sext16 device 0 (word_at places a) words s ready.frame) has
 set_works device s places live live2 vs m v op.Zext8 a b words top ready are reads h has =
-    unary_works device s places live live2 vs m v a words top _ (to_unsigned 1) (record { ready = ready; sets = are; stands = h }) (reads a (inl refl)) (low_lt 1) refl (reads_zext8 device 0 (word_at places a) words s ready.frame) has
+    unary_works device s places live live2 vs m v a words top _ (to_unsigned 1) (record { ready = ready; sets = are; stands = h }) (reads a (0, omega arith, refl)) (low_lt 1) refl (reads_zext8 device 0 (word_at places a) words s ready.frame) has
 set_works device s places live live2 vs m v op.Zext16 a b words top ready are reads h has =
-    unary_works device s places live live2 vs m v a words top _ (to_unsigned 2) (record { ready = ready; sets = are; stands = h }) (reads a (inl refl)) (low_lt 2) refl (reads_zext16 device 0 (word_at places a) words s ready.frame) has
+    unary_works device s places live live2 vs m v a words top _ (to_unsigned 2) (record { ready = ready; sets = are; stands = h }) (reads a (0, omega arith, refl)) (low_lt 2) refl (reads_zext16 device 0 (word_at places a) words s ready.frame) has
 set_works device s places live live2 vs m v o a b words top ready are reads h has =
     binary_works o refl device s places live live2 vs m v a b words top (record { ready = ready; sets = are; stands = h }) reads has
