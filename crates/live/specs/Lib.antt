@@ -2,3 +2,5 @@ pub mod Sets
 pub mod Live
 pub mod Clash
 pub mod Apart
+pub mod Slots
+pub mod Paths

@@ -1,6 +1,10 @@
-use Rattle.std.proofs.Common.{◌≡◌, drop}
+use Rattle.std.proofs.Common.{◌≡◌, ◌-◌, drop, length}
 use Rattle.live.specs.Clash as spec
+use Rattle.live.specs.Slots.{Keeps}
 use Rattle.live.proofs.clashes.pair_in.Given as goal
 
-abbrev pub invariant-loop-i : goal.invariant-loop-i
-invariant-loop-i l = spec.pair_in l.places l.vs ≡ spec.pair_in l.places (drop l.i l.vs)
+abbrev pub invariant-loop-k : goal.invariant-loop-k
+invariant-loop-k l = record {
+  table : Keeps l.places l.table (drop (length l.vs - l.k) l.vs);
+  least : l.least ≡ spec.pair_in l.places (drop (length l.vs - l.k) l.vs);
+}
