@@ -1,3 +1,6 @@
+pub mod Bits
 pub mod Nearest
+pub mod One
 pub mod Orders
 pub mod Rising
+pub mod Turns

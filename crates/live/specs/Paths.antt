@@ -1,6 +1,6 @@
 -- Paths through a function, and which variables are live on them. A path goes either way at a choice, whatever its variable
 -- holds, and goes round a loop as often as it likes.
-use Rattle.std.specs.Prelude.{◌≡◌, ◌≢◌, ◌<◌, ◌⊎◌, ◌↔◌, ℕ, zero, suc, ◌||◌, Bool, false, IsTrue, eqb, List, [], ◌∷◌, ◌++◌, length, map, Option, Some, None}
+use Rattle.std.specs.Prelude.{◌≡◌, ◌≢◌, ◌<◌, ◌≤◌, ◌⊎◌, ◌↔◌, ℕ, zero, suc, ◌||◌, Bool, true, false, eqb, List, [], ◌∷◌, ◌++◌, length, map, Option, Some, None}
 use Rattle.mid_ir.specs.declared.stmt.MidStmt.{MidStmt, out-MidStmt}
 use Rattle.mid_ir.specs.declared.stmt.MidStmt.TheOpen.{MidStmt-F, Seq, If, Loop, Block, Break, Return}
 use Rattle.mid_ir.specs.declared.stmt.MidStmt.TheFolds.{para-MidStmt}
@@ -88,15 +88,15 @@ sites_in = para-MidStmt Sites sites_step
 
 -- ---- what is said of a point
 
--- what is live behind a statement: what some path from there reads before it sets it, and what the statement sets
-abbrev pub behind_site : ℕ → List Todo → Type 0
-behind_site v [] = ⊥
-behind_site v (t ∷ rest) = (sets_at t ≡ Some v) ⊎ Reads v rest
+-- what is live behind a statement: what it sets, and what some path from there reads before it sets it
+abbrev pub LiveBehind : ℕ → List Todo → Type 0
+LiveBehind v [] = ⊥
+LiveBehind v (t ∷ rest) = (sets_at t ≡ Some v) ⊎ Reads v rest
 
 -- the variables before and behind, of a function with n of them
 pub record Tells (n : ℕ) (site : List Todo) (p : Point) : Type 0 where
-  pub before : (v : ℕ) → v < n → IsTrue (is_in v p.before) ↔ Reads v site
-  pub after : (v : ℕ) → v < n → IsTrue (is_in v p.after) ↔ behind_site v site
+  pub before : (v : ℕ) → v < n → (is_in v p.before ≡ true) ↔ Reads v site
+  pub after : (v : ℕ) → v < n → (is_in v p.after ≡ true) ↔ LiveBehind v site
 
 abbrev pub AllTell : ℕ → List (List Todo) → List Point → Type 0
 AllTell n [] [] = Unit {0}
@@ -104,6 +104,22 @@ AllTell n [] (p ∷ ps) = ⊥
 AllTell n (c ∷ cs) [] = ⊥
 AllTell n (c ∷ cs) (p ∷ ps) = Tells n c p × AllTell n cs ps
 
--- before a function's body its parameters are live too, which are set there
-abbrev pub beginning_site : ℕ → ℕ → List Todo → Type 0
-beginning_site params v site = (v < params) ⊎ Reads v site
+-- the point before a function's body, where its parameters are live too, since they are set there
+pub record Begins (f : MidFn) (p : Point) : Type 0 where
+  pub before : (v : ℕ) → v < f.vars → (is_in v p.before ≡ true) ↔ ((v < length f.narrow) ⊎ Reads v (Do f.body ∷ []))
+  pub after : (v : ℕ) → v < f.vars → (is_in v p.after ≡ true) ↔ LiveBehind v (Do f.body ∷ [])
+
+abbrev pub TellsAll : MidFn → List Point → Type 0
+TellsAll f [] = ⊥
+TellsAll f (p ∷ ps) = Begins f p × AllTell f.vars (sites_in f.body []) ps
+
+-- ---- variables in order
+
+-- numbers that ascend from m on and are below n
+abbrev pub Ascends : ℕ → ℕ → List ℕ → Type 0
+Ascends m n [] = Unit {0}
+Ascends m n (v ∷ vs) = (m ≤ v) × (v < n) × Ascends (suc v) n vs
+
+abbrev pub AllAscend : ℕ → List Point → Type 0
+AllAscend n [] = Unit {0}
+AllAscend n (p ∷ ps) = Ascends 0 n p.before × Ascends 0 n p.after × AllAscend n ps

@@ -6,8 +6,16 @@ ghost use Rattle.live.specs.declared.places.Where.{Where};
 ghost use Rattle.live.specs.Apart.{Apart};
 ghost use Rattle.live.specs.Clash.{clash};
 ghost use Rattle.live.specs.Live.{lives};
+ghost use Rattle.live.specs.Paths.{AllAscend, TellsAll};
 
 /// Where no two variables have one place, none clash in any function.
 pub fn apart_law()
     ensures { (f : MidFn) (places : List Where) → Apart places → clash places (lives f) ≡ None }
+{}
+
+/// Before each statement exactly those variables are live that some path from there reads before it sets them, and behind it
+/// these and what the statement sets; before the body its parameters too. A path goes either way at a choice, whatever its
+/// variable holds.
+pub fn path_law()
+    ensures { (f : MidFn) → TellsAll f (lives f) }
 {}

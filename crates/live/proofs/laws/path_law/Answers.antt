@@ -1,0 +1,5 @@
+use Rattle.live.proofs.Turns.{all_tell}
+use Rattle.live.proofs.laws.path_law.Goals as goal
+
+pub returns : goal.returns
+returns c f = all_tell f
