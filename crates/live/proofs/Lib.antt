@@ -3,4 +3,5 @@ pub mod Nearest
 pub mod One
 pub mod Orders
 pub mod Rising
+pub mod Telling
 pub mod Turns

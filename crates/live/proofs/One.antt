@@ -73,7 +73,7 @@ outs_into w x after around e = fun_ext by_number where
 -- ---- what is live before a statement
 
 abbrev Is : ℕ → ℕ → Set → Bool → Type 0
-Is n w xs b = (length xs ≡ n) × (has xs w ≡ b)
+Is n w xs b = (length xs ≡ n) × (w < n → has xs w ≡ b)
 
 abbrev Good : ℕ → ℕ → MidStmt → Type 0
 Good n w s = (after : Set) (around : List Set) → Fits n after around → Is n w (live_before s after around) (one w s (has after w) (outs w after around))
@@ -94,67 +94,67 @@ into_good n w x h after around fits =
     let g = fold-roll-MidStmt One (one_step w) x in
     let p = h after around fits in
     (ap (λ u. length (u.before after around)) e ∙ p.0,
-     ap (λ u. has (u.before after around) w) e ∙ p.1 ∙ sym (ap (λ o. o (has after w) (outs w after around)) g))
+     λ lt. ap (λ u. has (u.before after around) w) e ∙ p.1 lt ∙ sym (ap (λ o. o (has after w) (outs w after around)) g))
 
 -- a part of a statement, with what is live behind it
 part : (n w : ℕ) (x : AStmt n w) (after b : Set) (around : List Set) (t : Bool) → Fits n after around → Is n w b t
     → Is n w (live_before x.0 b around) (one w x.0 t (outs w after around))
 part n w x after b around t fits is =
     let p = x.1 b around (fits_other n after b around fits is.0) in
-    (p.0, p.1 ∙ ap (λ f. one w x.0 (has b w) f) (outs_other w b after around (is.0 ∙ sym fits.size)) ∙ ap (λ y. one w x.0 y (outs w after around)) is.1)
+    (p.0, λ lt. p.1 lt ∙ ap (λ f. one w x.0 (has b w) f) (outs_other w b after around (is.0 ∙ sym fits.size)) ∙ ap (λ y. one w x.0 y (outs w after around)) (is.1 lt))
 
 part_in : (n w : ℕ) (x : AStmt n w) (after b : Set) (around : List Set) (t : Bool) → Fits n after around → Is n w b t
     → Is n w (live_before x.0 b (around ++ after ∷ [])) (one w x.0 t (into (has after w) (outs w after around)))
 part_in n w x after b around t fits is =
     let p = x.1 b (around ++ after ∷ []) (fits_into n b after around fits is.0) in
-    (p.0, p.1 ∙ ap (λ f. one w x.0 (has b w) f) (outs_into w b after around (is.0 ∙ sym fits.size)) ∙ ap (λ y. one w x.0 y (into (has after w) (outs w after around))) is.1)
+    (p.0, λ lt. p.1 lt ∙ ap (λ f. one w x.0 (has b w) f) (outs_into w b after around (is.0 ∙ sym fits.size)) ∙ ap (λ y. one w x.0 y (into (has after w) (outs w after around))) (is.1 lt))
 
 abbrev stmts : (n w : ℕ) → List (AStmt n w) → List MidStmt
 stmts n w xs = map (λ x. x.0) xs
 
 parts : (n w : ℕ) (xs : List (AStmt n w)) (after : Set) (around : List Set) → Fits n after around
     → Is n w (before_all (map walk (stmts n w xs)) after around) (one_all (map (one w) (stmts n w xs)) (has after w) (outs w after around))
-parts n w [] after around fits = (fits.size, refl)
+parts n w [] after around fits = (fits.size, λ lt. refl)
 parts n w (x ∷ xs) after around fits =
     part n w x after (before_all (map walk (stmts n w xs)) after around) around (one_all (map (one w) (stmts n w xs)) (has after w) (outs w after around)) fits
     (parts n w xs after around fits)
 
 empty : (n w : ℕ) (after : Set) → length after ≡ n → Is n w (nothing after) false
-empty n w after e = (length-replicate (length after) false ∙ e, has_nothing (length after) w)
+empty n w after e = (length-replicate (length after) false ∙ e, λ lt. has_nothing (length after) w)
 
-put : (n w v : ℕ) → w < n → (xs : Set) (t : Bool) → Is n w xs t → Is n w (with_one xs v) (cond (eqb v w) true t)
-put n w v lt xs t is = (length-set xs v true ∙ is.0, has_set xs v w true (subst (λ m. w < m) (sym is.0) lt) ∙ ap (λ y. cond (eqb v w) true y) is.1)
+put : (n w v : ℕ) (xs : Set) (t : Bool) → Is n w xs t → Is n w (with_one xs v) (cond (eqb v w) true t)
+put n w v xs t is = (length-set xs v true ∙ is.0, λ lt. has_set xs v w true (subst (λ m. w < m) (sym is.0) lt) ∙ ap (λ y. cond (eqb v w) true y) (is.1 lt))
 
-both : (n w : ℕ) → w < n → (xs ys : Set) (t u : Bool) → Is n w xs t → Is n w ys u → Is n w (either xs ys) (u || t)
-both n w lt xs ys t u is js =
-    (length_all xs (members ys) ∙ is.0, has_either xs ys w (subst (λ m. w < m) (sym is.0) lt) ∙ ap (λ y. y || has xs w) js.1 ∙ ap (λ y. u || y) is.1)
+both : (n w : ℕ) (xs ys : Set) (t u : Bool) → Is n w xs t → Is n w ys u → Is n w (either xs ys) (u || t)
+both n w xs ys t u is js =
+    (length_all xs (members ys) ∙ is.0, λ lt. has_either xs ys w (subst (λ m. w < m) (sym is.0) lt) ∙ ap (λ y. y || has xs w) (js.1 lt) ∙ ap (λ y. u || y) (is.1 lt))
 
-plain : (n w : ℕ) → w < n → (s : MidStmt-F Walk) (after : Set) → length after ≡ n → Is n w (simply s after) (simple w s (has after w))
-plain n w lt s after e =
+plain : (n w : ℕ) (s : MidStmt-F Walk) (after : Set) → length after ≡ n → Is n w (simply s after) (simple w s (has after w))
+plain n w s after e =
     let size = length_unset after (sets_in s) ∙ e in
     (length_all (without_set after (sets_in s)) (reads_in s) ∙ size,
-     has_all (without_set after (sets_in s)) (reads_in s) w (subst (λ m. w < m) (sym size) lt)
+     λ lt. has_all (without_set after (sets_in s)) (reads_in s) w (subst (λ m. w < m) (sym size) lt)
      ∙ ap (λ y. is_in w (reads_in s) || y) (has_unset after (sets_in s) w (subst (λ m. w < m) (sym e) lt)))
 
-law : (n w : ℕ) → w < n → (y : MidStmt-F (AStmt n w)) → Good n w (roll-MidStmt (map-MidStmt (AStmt n w) MidStmt (whole n w) y))
-law n w lt (Seq xs) = into_good n w (Seq (stmts n w xs)) (parts n w xs)
-law n w lt (Const v k) = into_good n w (Const v k) (λ after around fits. plain n w lt (Const v k) after fits.size)
-law n w lt (SetVar v o a b) = into_good n w (SetVar v o a b) (λ after around fits. plain n w lt (SetVar v o a b) after fits.size)
-law n w lt (Home v offset) = into_good n w (Home v offset) (λ after around fits. plain n w lt (Home v offset) after fits.size)
-law n w lt (Load v a size signed) = into_good n w (Load v a size signed) (λ after around fits. plain n w lt (Load v a size signed) after fits.size)
-law n w lt (Store a size v) = into_good n w (Store a size v) (λ after around fits. plain n w lt (Store a size v) after fits.size)
-law n w lt (Call v f args) = into_good n w (Call v f args) (λ after around fits. plain n w lt (Call v f args) after fits.size)
-law n w lt (NsCall v target args kind) = into_good n w (NsCall v target args kind) (λ after around fits. plain n w lt (NsCall v target args kind) after fits.size)
-law n w lt (Range v p m flags) = into_good n w (Range v p m flags) (λ after around fits. plain n w lt (Range v p m flags) after fits.size)
-law n w lt (Caller v) = into_good n w (Caller v) (λ after around fits. plain n w lt (Caller v) after fits.size)
-law n w lt (If v a b) = into_good n w (If v a.0 b.0) (λ after around fits.
-    put n w v lt (either (live_before a.0 after around) (live_before b.0 after around)) _
-    (both n w lt (live_before a.0 after around) (live_before b.0 after around) _ _ (a.1 after around fits) (b.1 after around fits)))
-law n w lt (Loop a) = into_good n w (Loop a.0) (λ after around fits. part_in n w a after (nothing after) around false fits (empty n w after fits.size))
-law n w lt (Block a) = into_good n w (Block a.0) (λ after around fits. part_in n w a after after around (has after w) fits (fits.size, refl))
-law n w lt (Break k) = into_good n w (Break k) (λ after around fits. (fits.sizes k, refl))
-law n w lt (Return v) = into_good n w (Return v) (λ after around fits. put n w v lt (nothing after) false (empty n w after fits.size))
+law : (n w : ℕ) (y : MidStmt-F (AStmt n w)) → Good n w (roll-MidStmt (map-MidStmt (AStmt n w) MidStmt (whole n w) y))
+law n w (Seq xs) = into_good n w (Seq (stmts n w xs)) (parts n w xs)
+law n w (Const v k) = into_good n w (Const v k) (λ after around fits. plain n w (Const v k) after fits.size)
+law n w (SetVar v o a b) = into_good n w (SetVar v o a b) (λ after around fits. plain n w (SetVar v o a b) after fits.size)
+law n w (Home v offset) = into_good n w (Home v offset) (λ after around fits. plain n w (Home v offset) after fits.size)
+law n w (Load v a size signed) = into_good n w (Load v a size signed) (λ after around fits. plain n w (Load v a size signed) after fits.size)
+law n w (Store a size v) = into_good n w (Store a size v) (λ after around fits. plain n w (Store a size v) after fits.size)
+law n w (Call v f args) = into_good n w (Call v f args) (λ after around fits. plain n w (Call v f args) after fits.size)
+law n w (NsCall v target args kind) = into_good n w (NsCall v target args kind) (λ after around fits. plain n w (NsCall v target args kind) after fits.size)
+law n w (Range v p m flags) = into_good n w (Range v p m flags) (λ after around fits. plain n w (Range v p m flags) after fits.size)
+law n w (Caller v) = into_good n w (Caller v) (λ after around fits. plain n w (Caller v) after fits.size)
+law n w (If v a b) = into_good n w (If v a.0 b.0) (λ after around fits.
+    put n w v (either (live_before a.0 after around) (live_before b.0 after around)) _
+    (both n w (live_before a.0 after around) (live_before b.0 after around) _ _ (a.1 after around fits) (b.1 after around fits)))
+law n w (Loop a) = into_good n w (Loop a.0) (λ after around fits. part_in n w a after (nothing after) around false fits (empty n w after fits.size))
+law n w (Block a) = into_good n w (Block a.0) (λ after around fits. part_in n w a after after around (has after w) fits (fits.size, λ lt. refl))
+law n w (Break k) = into_good n w (Break k) (λ after around fits. (fits.sizes k, λ lt. refl))
+law n w (Return v) = into_good n w (Return v) (λ after around fits. put n w v (nothing after) false (empty n w after fits.size))
 
-pub is_one : (n w : ℕ) → w < n → (s : MidStmt) (after : Set) (around : List Set) → Fits n after around
-    → (length (live_before s after around) ≡ n) × (has (live_before s after around) w ≡ one w s (has after w) (outs w after around))
-is_one n w lt s = ind-MidStmt (Good n w) (λ x y is. subst (λ z. Good n w (roll-MidStmt z)) is (law n w lt y)) s
+pub is_one : (n w : ℕ) (s : MidStmt) (after : Set) (around : List Set) → Fits n after around
+    → (length (live_before s after around) ≡ n) × (w < n → has (live_before s after around) w ≡ one w s (has after w) (outs w after around))
+is_one n w s = ind-MidStmt (Good n w) (λ x y is. subst (λ z. Good n w (roll-MidStmt z)) is (law n w y)) s

@@ -1,4 +1,4 @@
-use Rattle.live.proofs.Turns.{all_tell}
+use Rattle.live.proofs.Telling.{all_tell}
 use Rattle.live.proofs.laws.path_law.Goals as goal
 
 pub returns : goal.returns
