@@ -1,5 +1,5 @@
 -- Each point of a function tells what is live there.
-use Rattle.std.proofs.Common.{◌≡◌, ◌≢◌, ◌<◌, ◌⊎◌, ◌↔◌, inl, inr, ⊎_elim, ℕ, zero, suc, ◌-◌, ◌||◌, Bool, true, false, cond, eqb, ltb, List, [], ◌∷◌, ◌++◌, length, replicate, slice_get, map, Option, Some, None, unwrap_or, true≢false, refl, sym, ap, ap₂, ◌∙◌, subst, arith}
+use Rattle.std.proofs.Common.{◌≡◌, ◌≢◌, ◌<◌, ◌≤◌, ◌+◌, ◌⊎◌, ◌↔◌, inl, inr, ⊎_elim, ℕ, zero, suc, ◌-◌, ◌||◌, Bool, true, false, cond, eqb, ltb, List, [], ◌∷◌, ◌++◌, length, replicate, slice_get, map, Option, Some, None, unwrap_or, true≢false, refl, sym, ap, ap₂, ◌∙◌, subst, arith}
 use Rattle.std.proofs.Math.Path.{fun_ext}
 use Rattle.std.proofs.lemmas.Bool.{eq-eqb, eqb-true}
 use Rattle.std.proofs.lemmas.Bool.Decides.{nat_tests}
@@ -11,9 +11,9 @@ use Rattle.mid_ir.specs.declared.stmt.MidStmt.TheOpen.{MidStmt-F, Seq, Const, Se
 use Rattle.mid_ir.specs.declared.stmt.MidStmt.TheFolds.{map-MidStmt, fold-roll-MidStmt, fold_out-MidStmt, para-roll-MidStmt, ind-MidStmt}
 use Rattle.mid_ir.specs.Uses.{sets, sets_in}
 use Rattle.live.specs.declared.lives.Point.{Point}
-use Rattle.live.specs.Sets.{Set, members, nothing, with_first, with_set}
+use Rattle.live.specs.Sets.{Set, members, members_from, nothing, with_first, with_set}
 use Rattle.live.specs.Live.{Walk, at_end, before_all, beginning, behind, inner, inner_step, live_before, lives, or_nothing, point, points_all, points_of, walk, walk_step}
-use Rattle.live.specs.Paths.{Todo, Do, Again, Leave, Reads, LiveBehind, Tells, AllTell, Begins, TellsAll, Sites, is_in, sites_all, sites_at, sites_in, sites_step}
+use Rattle.live.specs.Paths.{Todo, Do, Again, Leave, Reads, LiveBehind, Tells, AllTell, Begins, TellsAll, Ascends, Sites, is_in, sites_all, sites_at, sites_in, sites_step}
 use Rattle.live.proofs.Bits.{has, has_nothing, has_set, has_with, in_members, is_set, length_first}
 use Rattle.live.proofs.One.{One, Fits, fits_into, fits_other, into, is_one, one, outs, outs_into, outs_other}
 use Rattle.live.proofs.Turns.{at, complete, on_paths, or_left, or_right, or_split, picked_split}
@@ -60,6 +60,22 @@ shows_again n a after around rest h =
     }
 
 -- ---- a point
+
+members_ascend : (m : ℕ) (xs : Set) (n : ℕ) → m + length xs ≡ n → Ascends m n (members_from m xs)
+members_ascend m [] n e = tt
+members_ascend m (true ∷ xs) n e = (omega arith, omega (arith, e), members_ascend (suc m) xs n (omega (arith, e)))
+members_ascend m (false ∷ xs) n e = lower m n (members_from (suc m) xs) (members_ascend (suc m) xs n (omega (arith, e)))
+  where
+    lower : (m n : ℕ) (vs : List ℕ) → Ascends (suc m) n vs → Ascends m n vs
+    lower m n [] a = tt
+    lower m n (v ∷ vs) a = (let h = a.0 in omega (arith, h), a.1, a.2)
+
+ascends : (xs : Set) (n : ℕ) → length xs ≡ n → Ascends 0 n (members xs)
+ascends xs n e = members_ascend 0 xs n (omega (arith, e))
+
+length_with : (xs : Set) (o : Option ℕ) → length (with_set xs o) ≡ length xs
+length_with xs (Some v) = length-set xs v true
+length_with xs None = refl
 
 sets_layer : (y : MidStmt-F MidStmt) → sets_in (map-MidStmt MidStmt Walk walk y) ≡ sets_in y
 sets_layer (Seq ms) = refl
@@ -120,6 +136,8 @@ tells_one : (n : ℕ) (s : MidStmt) (after : Set) (around : List Set) (rest : Li
 tells_one n s after around rest h = record {
     before = before_tells n s after around rest h;
     after = λ v lt. subst (λ o. (is_in v (members (with_set after o)) ≡ true) ↔ LiveBehind v (Do s ∷ rest)) (sym (walk_sets s)) (after_tells n s after around rest h v lt);
+    before_order = ascends (live_before s after around) n (shows_one n s after around rest h).fits.size;
+    after_order = ascends (with_set after (walk s).sets) n (length_with after (walk s).sets ∙ h.fits.size);
   }
 
 -- ---- all points
@@ -241,6 +259,8 @@ begins f =
          λ l. e ∙ ⊎_elim (λ t. or_left (ltb v (length f.narrow)) (at v (Do f.body ∷ [])).0 (less_is v (length f.narrow) t))
            (λ r. or_right (ltb v (length f.narrow)) (at v (Do f.body ∷ [])).0 (complete v (Do f.body ∷ []) r)) l);
       after = after_tells f.vars f.body (at_end f) [] [] h;
+      before_order = ascends (with_first (length f.narrow) b) f.vars (length_first (length f.narrow) b ∙ (shows_one f.vars f.body (at_end f) [] [] h).fits.size);
+      after_order = ascends (with_set (at_end f) (sets f.body)) f.vars (length_with (at_end f) (sets f.body) ∙ h.fits.size);
     }
   where
     is_less : (v n : ℕ) → ltb v n ≡ true → v < n

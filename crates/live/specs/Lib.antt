@@ -4,3 +4,4 @@ pub mod Clash
 pub mod Apart
 pub mod Slots
 pub mod Paths
+pub mod Least

@@ -93,10 +93,17 @@ abbrev pub LiveBehind : ℕ → List Todo → Type 0
 LiveBehind v [] = ⊥
 LiveBehind v (t ∷ rest) = (sets_at t ≡ Some v) ⊎ Reads v rest
 
--- the variables before and behind, of a function with n of them
+-- numbers that ascend from m on and are below n
+abbrev pub Ascends : ℕ → ℕ → List ℕ → Type 0
+Ascends m n [] = Unit {0}
+Ascends m n (v ∷ vs) = (m ≤ v) × (v < n) × Ascends (suc v) n vs
+
+-- the variables before and behind, of a function with n of them, in ascending order
 pub record Tells (n : ℕ) (site : List Todo) (p : Point) : Type 0 where
   pub before : (v : ℕ) → v < n → (is_in v p.before ≡ true) ↔ Reads v site
   pub after : (v : ℕ) → v < n → (is_in v p.after ≡ true) ↔ LiveBehind v site
+  pub before_order : Ascends 0 n p.before
+  pub after_order : Ascends 0 n p.after
 
 abbrev pub AllTell : ℕ → List (List Todo) → List Point → Type 0
 AllTell n [] [] = Unit {0}
@@ -108,18 +115,9 @@ AllTell n (c ∷ cs) (p ∷ ps) = Tells n c p × AllTell n cs ps
 pub record Begins (f : MidFn) (p : Point) : Type 0 where
   pub before : (v : ℕ) → v < f.vars → (is_in v p.before ≡ true) ↔ ((v < length f.narrow) ⊎ Reads v (Do f.body ∷ []))
   pub after : (v : ℕ) → v < f.vars → (is_in v p.after ≡ true) ↔ LiveBehind v (Do f.body ∷ [])
+  pub before_order : Ascends 0 f.vars p.before
+  pub after_order : Ascends 0 f.vars p.after
 
 abbrev pub TellsAll : MidFn → List Point → Type 0
 TellsAll f [] = ⊥
 TellsAll f (p ∷ ps) = Begins f p × AllTell f.vars (sites_in f.body []) ps
-
--- ---- variables in order
-
--- numbers that ascend from m on and are below n
-abbrev pub Ascends : ℕ → ℕ → List ℕ → Type 0
-Ascends m n [] = Unit {0}
-Ascends m n (v ∷ vs) = (m ≤ v) × (v < n) × Ascends (suc v) n vs
-
-abbrev pub AllAscend : ℕ → List Point → Type 0
-AllAscend n [] = Unit {0}
-AllAscend n (p ∷ ps) = Ascends 0 n p.before × Ascends 0 n p.after × AllAscend n ps
