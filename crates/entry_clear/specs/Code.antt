@@ -1,5 +1,5 @@
 -- The code of an entry function round its body.
-use Rattle.std.specs.Prelude.{ℕ, suc, ◌+◌, ◌*◌, ◌/◌, Bool, true, false, ltb, List, [], ◌∷◌, ◌++◌, map}
+use Rattle.std.specs.Prelude.{ℕ, zero, suc, ◌+◌, ◌*◌, ◌/◌, Bool, true, false, ltb, List, [], ◌∷◌, ◌++◌, map}
 use Rattle.v8m_isa.specs.declared.instr.Instr.{Instr}
 use Rattle.v8m_isa.specs.declared.instr.Instr.TheVariants.{Mov, Movw, Addw, Subw, Ldr, Str, Stmdb, Ldmia, Msr, Bxns, Sxtb, Sxth, Uxtb, Uxth}
 use Rattle.mid_ir.specs.declared.program.MidFn.{MidFn}
@@ -36,10 +36,10 @@ save_code words = Stmdb kept_list ∷ Subw 13 13 (frame_bytes words) ∷ Str 14 
 
 -- a register, converted by a kind
 abbrev pub narrow_code : ℕ → ℕ → List Instr
-narrow_code 1 v = Sxtb v v ∷ []
-narrow_code 2 v = Uxtb v v ∷ []
-narrow_code 3 v = Sxth v v ∷ []
-narrow_code 4 v = Uxth v v ∷ []
+narrow_code (suc zero) v = Sxtb v v ∷ []
+narrow_code (suc (suc zero)) v = Uxtb v v ∷ []
+narrow_code (suc (suc (suc zero))) v = Sxth v v ∷ []
+narrow_code (suc (suc (suc (suc zero)))) v = Uxth v v ∷ []
 narrow_code _ v = []
 
 -- parameters from register v on to their places, each converted by its kind
