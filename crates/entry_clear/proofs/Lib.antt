@@ -5,3 +5,4 @@ pub mod FrameLaws
 pub mod Params
 pub mod Saves
 pub mod Whole
+pub mod ListLaws

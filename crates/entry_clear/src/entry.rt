@@ -36,6 +36,22 @@ fn put_params(asm: &mut List<Asm>, narrow: &[u8], places: &[Where]) -> Result<()
     Ok(())
 }
 
+// The code of an entry function round its body.
+fn listed(alloc: Global, f: &MidFn, places: &Places, body: &[Asm]) -> Result<List<Asm>, NoMemory>
+    requires { IsEntry f.now places.now.list }
+    ensures { IfOk result (λ asm. asm ≡ entry_list f.now places.now.list body.now) }
+{
+    let words = frame_words(places.list.as_slice());
+    let mut asm = List::new(alloc);
+    put_code(&mut asm, &save_code(words))?;
+    put_params(&mut asm, f.narrow.as_slice(), places.list.as_slice())?;
+    asm.extend_from_slice(body)?;
+    put_result(&mut asm, f.gives)?;
+    put_code(&mut asm, &clear_code(words))?;
+    put_code(&mut asm, &[Instr::Bxns { m: 14 }])?;
+    Ok(asm)
+}
+
 /// The code of an entry function round its body, which falls off its end where the function ends, with the result in r0 if it has
 /// one (ECM0359818, entry functions). Each variable has a word of the frame, and no two parameters share one.
 pub fn entry_asm(alloc: Global, f: &MidFn, places: &Places, body: &[Asm]) -> Result<List<Asm>, NoMemory>
@@ -47,13 +63,5 @@ pub fn entry_asm(alloc: Global, f: &MidFn, places: &Places, body: &[Asm]) -> Res
     ensures enters { IfOk result (λ asm. EntersWhere f.now places.now.list body.now asm) }
     ensures stops { IfOk result (λ asm. StopsWhere f.now places.now.list asm) }
 {
-    let words = frame_words(places.list.as_slice());
-    let mut asm = List::new(alloc);
-    put_code(&mut asm, &save_code(words))?;
-    put_params(&mut asm, f.narrow.as_slice(), places.list.as_slice())?;
-    asm.extend_from_slice(body)?;
-    put_result(&mut asm, f.gives)?;
-    put_code(&mut asm, &clear_code(words))?;
-    put_code(&mut asm, &[Instr::Bxns { m: 14 }])?;
-    Ok(asm)
+    listed(alloc, f, places, body)
 }
