@@ -5,7 +5,7 @@ use Rattle.std.proofs.lemmas.List.Elements.{All-nil, All-cons, All-append, All-h
 use Rattle.std.proofs.lemmas.Bool.Decides.{nat_tests}
 use Rattle.v8m_isa.specs.declared.instr.Instr.{Instr}
 use Rattle.v8m_isa.specs.declared.instr.Instr.TheVariants.{Bxns, Str}
-use Rattle.v8m_isa.specs.Table.{in_range_of, size_of}
+use Rattle.v8m_isa.specs.Table.{is_number, in_range_of, size_of}
 use Rattle.v8m_isa.specs.Bytes.{AllInRange}
 use Rattle.mid_ir.specs.declared.program.MidFn.{MidFn}
 use Rattle.live.specs.declared.places.Where.{Where}
@@ -25,15 +25,15 @@ by_list P x (Err err) e p = tt
 
 -- Ranges
 
-small : (w : ℕ) → w ≤ 904 → ltb (4 * w) 4096 ≡ true
+small : (w : ℕ) → w ≤ 904 → is_number 12 (4 * w) ≡ true
 small w le = grind (arith, nat_tests)
 
-small_bytes : (w : ℕ) → w ≤ 904 → ltb (frame_bytes w) 4096 ≡ true
+small_bytes : (w : ℕ) → w ≤ 904 → is_number 12 (frame_bytes w) ≡ true
 small_bytes w le = let lt : frame_bytes w < 4096 = omega arith in grind (arith, nat_tests)
 
 save_range : (w : ℕ) → w ≤ 904 → AllInRange (save_code w)
 unfolding in_range_of
-save_range w le = (refl, rw (small_bytes w le) refl, rw (small w le) refl, tt)
+save_range w le = (refl, (rw (small_bytes w le) refl, (rw (small w le) refl, tt)))
 
 low_register : (v : ℕ) → v < 4 → (ltb v 13 || eqb v 14) ≡ true
 low_register v lt = grind (arith, nat_tests)
@@ -73,7 +73,7 @@ result_range false = (refl, tt)
 
 clear_range : (w : ℕ) → w ≤ 904 → AllInRange (clear_code w)
 unfolding in_range_of
-clear_range w le = (rw (small w le) refl, rw (small_bytes w le) refl, refl, refl, refl, refl, refl, refl, tt)
+clear_range w le = (rw (small w le) refl, (rw (small_bytes w le) refl, (refl, (refl, (refl, (refl, (refl, (refl, tt))))))))
 
 branch_range : AllInRange (Bxns 14 ∷ [])
 unfolding in_range_of
