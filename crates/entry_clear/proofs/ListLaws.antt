@@ -32,7 +32,7 @@ small_bytes : (w : ℕ) → w ≤ 904 → is_number 12 (frame_bytes w) ≡ true
 small_bytes w le = let lt : frame_bytes w < 4096 = omega arith in grind (arith, nat_tests)
 
 save_range : (w : ℕ) → w ≤ 904 → AllInRange (save_code w)
-unfolding in_range_of
+unfolding in_range_of lib.Count.ones
 save_range w le = (refl, (rw (small_bytes w le) refl, (rw (small w le) refl, tt)))
 
 low_register : (v : ℕ) → v < 4 → (ltb v 13 || eqb v 14) ≡ true
@@ -72,7 +72,7 @@ result_range true = tt
 result_range false = (refl, tt)
 
 clear_range : (w : ℕ) → w ≤ 904 → AllInRange (clear_code w)
-unfolding in_range_of
+unfolding in_range_of lib.Count.ones
 clear_range w le = (rw (small w le) refl, (rw (small_bytes w le) refl, (refl, (refl, (refl, (refl, (refl, (refl, tt))))))))
 
 branch_range : AllInRange (Bxns 14 ∷ [])

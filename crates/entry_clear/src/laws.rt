@@ -11,10 +11,14 @@ ghost use Rattle.v8m_core.specs.Step.{seen};
 ghost use Rattle.entry_clear.specs.Code.{taken};
 ghost use Rattle.entry_clear.specs.Entry.{at_exit, entry_mark};
 
-/// Where an entry function goes back, the caller sees its result and what it had itself, and nothing else.
+/// Where an entry function goes back, the caller sees its result and what it had itself, and nothing else: so two bodies that give
+/// the same look the same.
 pub fn exact_view()
-    ensures { (f : MidFn) (places : List Where) (s u : State) (e : ℕ) →
+    ensures view { (f : MidFn) (places : List Where) (s u : State) (e : ℕ) →
         view_of (c.Result e (given f.gives u.cpu.regs.r0)) (entry_mark s u) ≡ Some (seen (at_exit f places s u).cpu s.cpu.regs.lr) }
+    ensures alike { (f : MidFn) (places : List Where) (s u w : State) → given f.gives u.cpu.regs.r0 ≡ given f.gives w.cpu.regs.r0 →
+        u.cpu.msp_ns ≡ w.cpu.msp_ns → u.cpu.psp_ns ≡ w.cpu.psp_ns →
+        seen (at_exit f places s u).cpu s.cpu.regs.lr ≡ seen (at_exit f places s w).cpu s.cpu.regs.lr }
 {}
 
 /// The code takes at most 48 bytes of the stack and those of its frame.

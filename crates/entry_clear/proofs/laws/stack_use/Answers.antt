@@ -1,5 +1,4 @@
 use Rattle.std.proofs.Common.{arith}
-use Rattle.entry_clear.proofs.Whole.{enters}
 use Rattle.entry_clear.proofs.laws.stack_use.Goals as goal
 
 pub returns : goal.returns
